@@ -1,0 +1,4 @@
+pub mod Tests
+pub mod Width
+pub mod Parts
+pub mod Sames

@@ -1,0 +1,130 @@
+-- Laws of parts: what is read back, what stays, and where nothing changes, at any place and width.
+use Prim.Native.Nat.{ℕ, zero, suc, _+_, _<_, _≤_}
+use mathlib.Core.Path.{_≡_, refl, sym, ap, ap₂, _∙_, subst}
+use mathlib.Core.Logic.{⊎-elim, _⊎_, inl, inr}
+use mathlib.Core.Bool.{Bool, true, false, _&&_}
+use mathlib.Core.List.{List, [], _∷_, _++_}
+use native.Mathlib.Nat.{not-suc-le-zero, eq-or-lt-of-le, le-of-suc-le-suc, zero-add, add-assoc}
+use native.Mathlib.Numerals.{add-one}
+use native.Mathlib.Omega.{arith}
+use lib.ListN.{length, getD, set, replicate, length-set, length-append, List·getD-append}
+use lib.Seq.{getD-set-same, getD-set-other, getD-at, ext-getD, set-getD}
+use lib.Dec.{eqb}
+use borrow.Author.Tests.{eqb-true}
+use Rattle.octets.specs.Number.{value, Octets}
+use Rattle.octets.specs.Part.{part, number, putTo, put, zeros}
+use Rattle.octets.proofs.Tests.{and-left, and-right}
+
+-- what holds below n and at n holds below suc n
+pub grow : (P : ℕ → Type 0) (n : ℕ) → ((j : ℕ) → j < n → P j) → P n → (j : ℕ) → j < suc n → P j
+grow P n below here j l = ⊎-elim (λ e. subst P (sym e) here) (λ m. below j m) (eq-or-lt-of-le (le-of-suc-le-suc l))
+
+-- ---- a part
+pub length-part : (t : List ℕ) (o w : ℕ) → length (part t o w) ≡ w
+length-part t o zero = refl
+length-part t o (suc w) = length-append (part t o w) (getD t (o + w) 0 ∷ []) ∙ ap (λ (n : ℕ). n + 1) (length-part t o w) ∙ add-one w
+
+pub part-at : (t : List ℕ) (o w i : ℕ) → i < w → getD (part t o w) i 0 ≡ getD t (o + i) 0
+part-at t o zero i h = absurd (not-suc-le-zero h)
+part-at t o (suc w) i h =
+    grow (λ (j : ℕ). getD (part t o (suc w)) j 0 ≡ getD t (o + j) 0) w
+    (λ j l. List·getD-append (part t o w) (getD t (o + w) 0 ∷ []) 0 j (omega (arith, length-part t o w)) ∙ part-at t o w j l)
+    (getD-at (part t o w) (getD t (o + w) 0) [] 0 w (length-part t o w)) i h
+
+-- a list of w octets is its own part
+pub part-all : (l : List ℕ) (w : ℕ) → length l ≡ w → part l 0 w ≡ l
+part-all l w e =
+    ext-getD 0 (part l 0 w) l (length-part l 0 w ∙ sym e)
+    (λ i h. part-at l 0 w i (omega (arith, length-part l 0 w)) ∙ ap (λ (n : ℕ). getD l n 0) (zero-add i))
+
+-- ---- two rows of octets agree on w octets, from o in the one and from p in the other
+module _ (s : List ℕ) (o : ℕ) (t : List ℕ) (p : ℕ) where
+  abbrev pub Agree : ℕ → Type 0
+  Agree w = (k : ℕ) → k < w → getD s (o + k) 0 ≡ getD t (p + k) 0
+
+  -- where they agree, their parts are the same
+  pub part-cong : (w : ℕ) → Agree w → part s o w ≡ part t p w
+  part-cong zero h = refl
+  part-cong (suc w) h =
+      ap₂ (λ (a : List ℕ) (b : ℕ). a ++ (b ∷ [])) (part-cong w (λ k l. h k (omega arith))) (h w (omega arith))
+
+  pub agree-at : (w a : ℕ) → Agree w → a < w → getD s (o + a) 0 ≡ getD t (p + a) 0
+  agree-at w a h l = h a l
+
+  pub agree-first : (w : ℕ) → Agree w → 0 < w → getD s o 0 ≡ getD t p 0
+  agree-first w h l =
+      let e : o ≡ o + 0 = omega arith in
+      let f : p ≡ p + 0 = omega arith in
+      ap (λ (n : ℕ). getD s n 0) e ∙ h 0 l ∙ ap (λ (n : ℕ). getD t n 0) (sym f)
+
+-- a part of what agrees agrees
+pub agree-sub : (s : List ℕ) (o : ℕ) (t : List ℕ) (p w a v : ℕ) → a + v ≤ w → Agree s o t p w → Agree s (o + a) t (p + a) v
+agree-sub s o t p w a v f h k l =
+    ap (λ (n : ℕ). getD s n 0) (add-assoc o a k) ∙ h (a + k) (omega arith) ∙ ap (λ (n : ℕ). getD t n 0) (sym (add-assoc p a k))
+
+-- ---- what is written
+pub length-putTo : (t : List ℕ) (o : ℕ) (v : List ℕ) (k : ℕ) → length (putTo t o v k) ≡ length t
+length-putTo t o v zero = refl
+length-putTo t o v (suc k) = length-set (putTo t o v k) (o + k) (getD v k 0) ∙ length-putTo t o v k
+
+pub length-put : (t : List ℕ) (o : ℕ) (v : List ℕ) → length (put t o v) ≡ length t
+length-put t o v = length-putTo t o v (length v)
+
+below : (t : List ℕ) (o : ℕ) (v : List ℕ) (k j : ℕ) → j < o → getD (putTo t o v k) j 0 ≡ getD t j 0
+below t o v zero j h = refl
+below t o v (suc k) j h = getD-set-other (putTo t o v k) (o + k) j (getD v k 0) 0 (omega arith) ∙ below t o v k j h
+
+above : (t : List ℕ) (o : ℕ) (v : List ℕ) (k j : ℕ) → o + k ≤ j → getD (putTo t o v k) j 0 ≡ getD t j 0
+above t o v zero j h = refl
+above t o v (suc k) j h =
+    getD-set-other (putTo t o v k) (o + k) j (getD v k 0) 0 (omega arith) ∙ above t o v k j (omega arith)
+
+within : (t : List ℕ) (o : ℕ) (v : List ℕ) (k i : ℕ) → o + k ≤ length t → i < k → getD (putTo t o v k) (o + i) 0 ≡ getD v i 0
+within t o v zero i f h = absurd (not-suc-le-zero h)
+within t o v (suc k) i f h =
+    grow (λ (j : ℕ). getD (putTo t o v (suc k)) (o + j) 0 ≡ getD v j 0) k
+    (λ j l. getD-set-other (putTo t o v k) (o + k) (o + j) (getD v k 0) 0 (omega arith) ∙ within t o v k j (omega arith) l)
+    (getD-set-same (putTo t o v k) (o + k) (getD v k 0) 0 (omega (arith, length-putTo t o v k))) i h
+
+-- off the octets that were written, all stays
+pub put-off : (t : List ℕ) (a : ℕ) (v : List ℕ) (o w : ℕ) → (a + length v ≤ o) ⊎ (o + w ≤ a) → Agree (put t a v) o t o w
+put-off t a v o w (inl h) k l = above t a v (length v) (o + k) (omega arith)
+put-off t a v o w (inr h) k l = below t a v (length v) (o + k) (omega arith)
+
+-- on them, what was written is read back
+pub put-on : (t : List ℕ) (a : ℕ) (v : List ℕ) → a + length v ≤ length t → Agree (put t a v) a v 0 (length v)
+put-on t a v f k l = within t a v (length v) k f l ∙ ap (λ (n : ℕ). getD v n 0) (sym (zero-add k))
+
+-- a row whose every octet was written is what was written
+pub put-whole : (t v : List ℕ) → length v ≡ length t → put t 0 v ≡ v
+put-whole t v e =
+    ext-getD 0 (put t 0 v) v (length-put t 0 v ∙ sym e)
+    (λ i h. ap (λ (n : ℕ). getD (put t 0 v) n 0) (sym (zero-add i)) ∙ within t 0 v (length v) i (omega arith) (omega (arith, length-put t 0 v)))
+
+-- writing what stands there changes nothing
+same-to : (t : List ℕ) (o : ℕ) (v : List ℕ) (k : ℕ) → Agree t o v 0 k → putTo t o v k ≡ t
+same-to t o v zero h = refl
+same-to t o v (suc k) h =
+    ap (λ (u : List ℕ). set u (o + k) (getD v k 0)) (same-to t o v k (λ j l. h j (omega arith)))
+    ∙ ap (set t (o + k)) (ap (λ (n : ℕ). getD v n 0) (sym (zero-add k)) ∙ sym (h k (omega arith))) ∙ set-getD t (o + k) 0
+
+pub put-same : (t : List ℕ) (o : ℕ) (v : List ℕ) → Agree t o v 0 (length v) → put t o v ≡ t
+put-same t o v h = same-to t o v (length v) h
+
+-- ---- zero octets
+pub zeros-at : (l : List ℕ) → zeros l ≡ true → (i : ℕ) → getD l i 0 ≡ 0
+zeros-at [] h i = refl
+zeros-at (b ∷ bs) h zero = eqb-true b 0 (and-left (eqb b 0) (zeros bs) h)
+zeros-at (b ∷ bs) h (suc i) = zeros-at bs (and-right (eqb b 0) (zeros bs) h) i
+
+-- a zero part agrees with the empty row, which is 0 everywhere
+pub zeros-agree : (t : List ℕ) (o w : ℕ) → zeros (part t o w) ≡ true → Agree t o [] 0 w
+zeros-agree t o w h k l = sym (part-at t o w k l) ∙ zeros-at (part t o w) h k
+
+replicated : (m i : ℕ) → getD {A = ℕ} (replicate m 0) i 0 ≡ 0
+replicated zero i = refl
+replicated (suc m) zero = refl
+replicated (suc m) (suc i) = replicated m i
+
+pub empty-agree : (m o w : ℕ) → Agree (replicate m 0) o [] 0 w
+empty-agree m o w k l = replicated m (o + k)
