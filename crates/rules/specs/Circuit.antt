@@ -1,0 +1,82 @@
+-- 01, "Rules of choice", of one circuit: its marks and parts, and what is made of it.
+use Prim.Native.Nat.{ℕ, _+_, _*_, _-_, _%_}
+use mathlib.Core.Bool.{Bool, true, false, cond, _&&_, not}
+use mathlib.Core.List.{List, [], _∷_}
+use lib.Dec.{ltb, leb, eqb}
+use Rattle.octets.specs.Same.{same}
+use Rattle.rules.specs.declared.level.Level.{Level}
+use Rattle.rules.specs.declared.mark.Mark.{Mark}
+use Rattle.rules.specs.declared.part.Part.{Part}
+use Rattle.rules.specs.declared.circuit.Circuit.{Circuit}
+use Rattle.rules.specs.declared.event.Event.{Event}
+use Rattle.rules.specs.declared.outcome.Act.{Act}
+use Rattle.rules.specs.declared.outcome.Act.the-variants.{Seize, Reserve, Release, Cancel}
+use Rattle.rules.specs.Fields.{routine}
+
+-- 0 is the highest level
+abbrev pub higher : Level → Level → Bool
+higher a b = ltb (a .0) (b .0)
+
+abbrev pub isRoutine : Level → Bool
+isRoutine l = eqb (l .0) routine
+
+-- the same domain and a strictly smaller level number
+abbrev pub outranks : Mark → Mark → Bool
+outranks a b = same (a .domain) (b .domain) && higher (a .level) (b .level)
+
+abbrev pub sameMark : Mark → Mark → Bool
+sameMark a b = eqb (a .level .0) (b .level .0) && same (a .domain) (b .domain)
+
+-- a part whose flag is 0 is all zero
+abbrev pub five : List ℕ
+five = 0 ∷ 0 ∷ 0 ∷ 0 ∷ 0 ∷ []
+
+abbrev pub unmarked : Mark
+unmarked = record { level = record { 0 = 0 }; domain = five }
+
+abbrev pub nobody : Part
+nobody = record { present = false; mark = unmarked; reference = five }
+
+-- the part that an event's call takes on a circuit
+abbrev pub party : Event → Part
+party e = record { present = true; mark = e .mark; reference = e .reference }
+
+-- the call with reference r stands in this part
+abbrev pub isOf : List ℕ → Part → Bool
+isOf r p = p .present && same (p .reference) r
+
+-- the standing mark is the reservation's level and domain if there is one, else the holder's
+abbrev pub standing : Circuit → Mark
+standing c = cond (c .reservation .present) (c .reservation .mark) (c .holder .mark)
+
+-- a circuit is free if it has neither part
+abbrev pub free : Circuit → Bool
+free c = not (c .holder .present) && not (c .reservation .present)
+
+-- it is takeable by a call if the standing mark has the same domain and a strictly greater level number
+unfoldable pub takeable : Mark → Circuit → Bool
+takeable m c = not (free c) && outranks m (standing c)
+
+-- among takeable ones the greatest level number; at equal level one with no holder before one with a holder
+unfoldable pub rank : Mark → Circuit → ℕ
+rank m c = cond (takeable m c) (1 + 2 * standing c .level .0 + cond (c .holder .present) 0 1) 0
+
+-- the clock less the stored clock, modulo 4,294,967,296
+abbrev pub age : ℕ → ℕ → ℕ
+age clock stored = (clock + 4294967296 - stored) % 4294967296
+
+-- a reservation goes when that is 3,000 or more
+abbrev pub limit : ℕ
+limit = 3000
+
+abbrev pub old : ℕ → Circuit → Bool
+old clock c = c .reservation .present && leb limit (age clock (c .clock))
+
+-- set-up: the circuit then holds the call with no reservation
+-- look-ahead: the reservation part is written with the event's clock; a holder stays
+-- release empties the holder part, cancel the reservation part; the other part stays
+abbrev pub made : Event → Act → Circuit → Circuit
+made e Seize c = record { holder = party e; reservation = nobody; clock = 0 }
+made e Reserve c = record { holder = c .holder; reservation = party e; clock = e .clock }
+made e Release c = record { holder = nobody; reservation = c .reservation; clock = c .clock }
+made e Cancel c = record { holder = c .holder; reservation = nobody; clock = 0 }

@@ -1,0 +1,83 @@
+-- 01, "Records": what a valid table is, as a search for the first fault. Its reasons stand in the order in which they are looked for.
+use Prim.Native.Nat.{ℕ, zero, suc, _*_, _/_, _%_}
+use mathlib.Core.Bool.{Bool, true, false, cond, _&&_, _||_, not}
+use mathlib.Core.List.{List}
+use Rattle.octets.specs.Same.{same}
+use Rattle.rules.specs.declared.part.Part.{Part}
+use Rattle.rules.specs.declared.circuit.Circuit.{Circuit}
+use Rattle.rules.specs.declared.verdict.Reason.{Reason}
+use Rattle.rules.specs.declared.verdict.Reason.the-variants.{FlagOrLevel, DigitOrPointCode, NotZero, NotAbove, Repeated}
+use Rattle.rules.specs.declared.verdict.Verdict.{Verdict}
+use Rattle.rules.specs.declared.verdict.Verdict.the-variants.{Valid, Fault}
+use Rattle.rules.specs.Fields.{levelOk, decimal}
+use Rattle.rules.specs.Search.{someTo, firstTo, found}
+use Rattle.rules.specs.Circuit.{outranks}
+use Rattle.rules.specs.Layout.{Layout}
+
+-- what is asked of a part that is present
+abbrev pub ifPresent : Part → Bool → Bool
+ifPresent p b = not (p .present) || b
+
+-- levels 0 to 4
+unfoldable pub levelsOk : Circuit → Bool
+levelsOk c = ifPresent (c .holder) (levelOk (c .holder .mark .level .0)) && ifPresent (c .reservation) (levelOk (c .reservation .mark .level .0))
+
+-- digits 0 to 9 and point code spare bits 0
+abbrev pub partOk : (List ℕ → Bool) → Part → Bool
+partOk code p = ifPresent p (decimal (p .mark .domain) && code (p .reference))
+
+unfoldable pub fieldsOk : (List ℕ → Bool) → Circuit → Bool
+fieldsOk code c = partOk code (c .holder) && partOk code (c .reservation)
+
+-- where both parts are present, the reservation has the same domain and a strictly smaller level number than the holder
+unfoldable pub pairOk : Circuit → Bool
+pairOk c = ifPresent (c .holder) (ifPresent (c .reservation) (outranks (c .reservation .mark) (c .holder .mark)))
+
+-- parts are numbered: 2 i is the holder's of circuit i, and 2 i + 1 its reservation's
+abbrev pub side : Circuit → ℕ → Part
+side c zero = c .holder
+side c (suc k) = c .reservation
+
+abbrev pub partNo : (ℕ → Circuit) → ℕ → Part
+partNo x k = side (x (k / 2)) (k % 2)
+
+-- a call reference stands in two parts whose flag is 1
+abbrev pub clash : Part → Part → Bool
+clash p q = p .present && q .present && same (p .reference) (q .reference)
+
+-- the reference of part k stands in an earlier part
+unfoldable pub repeated : (ℕ → Circuit) → ℕ → Bool
+repeated x k = someTo (λ j. clash (partNo x j) (partNo x k)) k
+
+-- the first of two verdicts that is a fault
+abbrev pub orFault : Verdict → Verdict → Verdict
+orFault (Fault r i) v = Fault r i
+orFault Valid v = v
+
+abbrev pub isValid : Verdict → Bool
+isValid Valid = true
+isValid (Fault r i) = false
+
+module _ {S : Type 0} (L : Layout S) (s : S) where
+  -- record i by itself
+  unfoldable pub recordVerdict : ℕ → Verdict
+  recordVerdict i =
+      cond (not (L .flags s i && levelsOk (L .view s i))) (Fault FlagOrLevel i)
+      (cond (not (fieldsOk (L .code) (L .view s i))) (Fault DigitOrPointCode i)
+      (cond (not (L .blank s i)) (Fault NotZero i)
+      (cond (not (pairOk (L .view s i))) (Fault NotAbove i) Valid)))
+
+  -- the records below n, the lowest first
+  abbrev pub recordsTo : ℕ → Verdict
+  recordsTo zero = Valid
+  recordsTo (suc n) = orFault (recordsTo n) (recordVerdict n)
+
+  -- the parts of n circuits: no call reference stands in two whose flag is 1
+  abbrev pub partsTo : ℕ → Verdict
+  partsTo n = found (firstTo (repeated (L .view s)) (2 * n)) (λ k. Fault Repeated (k / 2)) Valid
+
+  unfoldable pub verdict : Verdict
+  verdict = orFault (recordsTo (L .count s)) (partsTo (L .count s))
+
+  unfoldable pub valid : Bool
+  valid = isValid verdict

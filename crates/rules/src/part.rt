@@ -1,0 +1,35 @@
+// One part of a circuit: its holder, or its reservation.
+use crate::mark::Mark;
+
+ghost use mathlib.Core.Path.{_≡_};
+ghost use Rattle.rules.specs.Circuit.{nobody, isOf};
+
+pub struct Part {
+    pub present: bool,
+    pub mark: Mark,
+    pub reference: [u8; 5],
+}
+
+impl Part {
+    // Whether the call with this reference stands here.
+    pub fn is_of(self, reference: [u8; 5]) -> bool
+        ensures { λ r. ⌜ r ≡ isOf reference self ⌝ }
+    {
+        let here = self.reference;
+        if self.present {
+            octets::same_five(here, reference)
+        } else {
+            false
+        }
+    }
+
+    // An absent part is zero in every octet.
+    pub fn emptied(mut self) -> Part
+        ensures { λ r. ⌜ r ≡ nobody ⌝ }
+    {
+        self.present = false;
+        self.mark = self.mark.emptied();
+        self.reference = [0u8; 5];
+        self
+    }
+}
