@@ -38,10 +38,27 @@ module _ {A : Type 0} (x y : A) {z : A} where
 pub other : (n k m : ℕ) → n ≡ k → eqb k m ≡ false → n ≡ m → ⊥
 other n k m e t f = eqb-false k m t (sym e ∙ f)
 
+-- the same of `a && b`, and of `not a && b`
+module _ (a b : Bool) {z r : Bool} where
+  pub and-on : r ≡ a → r ≡ true → z ≡ b → z ≡ a && b
+  and-on e h g = g ∙ sym (ap (λ (t : Bool). t && b) (sym e ∙ h))
+
+  pub and-off : r ≡ a → r ≡ false → z ≡ false → z ≡ a && b
+  and-off e h g = g ∙ sym (ap (λ (t : Bool). t && b) (sym e ∙ h))
+
+  pub not-on : r ≡ a → r ≡ true → z ≡ false → z ≡ not a && b
+  not-on e h g = g ∙ sym (ap (λ (t : Bool). not t && b) (sym e ∙ h))
+
+  pub not-off : r ≡ a → r ≡ false → z ≡ b → z ≡ not a && b
+  not-off e h g = g ∙ sym (ap (λ (t : Bool). not t && b) (sym e ∙ h))
+
 -- closes a return where the definition is a nest of `cond` in the order of the code's tests
 pub ruleset ways = (needs, if-true, if-false, if-eq, if-ne, if-le, if-gt, if-lt, if-ge, not-true, not-false, other)
 
--- the same by rewriting: for definitions with `&&`
+-- the same for a definition with `&&`
+pub ruleset both = (needs, and-on, and-off, not-on, not-off, eq-eqb, ne-eqb, le-leb, lt-leb, lt-ltb, le-ltb, not-true, not-false)
+
+-- the same by rewriting
 pub ruleset tests = (needs, eq-eqb, ne-eqb, le-leb, lt-leb, lt-ltb, le-ltb)
 
 pub and-left : (a b : Bool) → a && b ≡ true → a ≡ true

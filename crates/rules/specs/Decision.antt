@@ -1,5 +1,4 @@
--- 01, "Rules of choice" and "Numbers given back": what is decided of a well-formed event over a valid table.
--- The refusals are checked in the table's order, and the first that applies is given.
+-- 01, "Rules of choice" and "Numbers given back": what is decided of a well-formed event over a valid table, the first refusal that applies in the table's order.
 use Prim.Native.Nat.{ℕ}
 use mathlib.Core.Bool.{Bool, true, false, cond, _&&_, _||_, not}
 use lib.Dec.{eqb}
@@ -46,6 +45,7 @@ module _ (x : ℕ → Circuit) (n : ℕ) where
       (found (reservedBy x n (e .reference)) (λ i. Refuse AlreadyThere)
       (found (choice x n (e .mark)) (Do Reserve) (Refuse NoCircuitToReserve)))))
 
+  -- release empties the holder part, cancel the reservation part
   unfoldable pub release : Event → Outcome
   release e = found (heldBy x n (e .reference)) (Do Release) (Refuse NotThere)
 

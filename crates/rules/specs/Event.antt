@@ -1,6 +1,6 @@
 -- 01, "Records", of an event: what is well-formed.
 use Prim.Native.Nat.{ℕ}
-use mathlib.Core.Bool.{Bool, true, false, cond, _&&_, _||_}
+use mathlib.Core.Bool.{Bool, false, cond, _&&_}
 use lib.Dec.{eqb}
 use Rattle.rules.specs.declared.event.Event.{Event}
 use Rattle.rules.specs.Fields.{levelOk, lfbOk, decimal}
@@ -13,6 +13,8 @@ parameterOk e = levelOk (e .mark .level .0) && lfbOk (e .lfb) && decimal (e .mar
 -- kinds 2, 4 and 5 have a zero parameter and kind 5 a zero reference, every bit
 unfoldable pub wellFormed : Event → Bool
 wellFormed e =
-    cond (eqb (e .kind) 1 || eqb (e .kind) 3) (parameterOk e)
-    (cond (eqb (e .kind) 2 || eqb (e .kind) 4) (e .plain)
-    (cond (eqb (e .kind) 5) (e .plain && e .bare) false))
+    cond (eqb (e .kind) 1) (parameterOk e)
+    (cond (eqb (e .kind) 2) (e .plain)
+    (cond (eqb (e .kind) 3) (parameterOk e)
+    (cond (eqb (e .kind) 4) (e .plain)
+    (cond (eqb (e .kind) 5) (e .plain && e .bare) false))))

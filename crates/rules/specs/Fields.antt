@@ -13,19 +13,7 @@ levelIn o = o % 16
 abbrev pub lfbIn : ℕ → ℕ
 lfbIn o = o / 32 % 4
 
--- the five levels
-abbrev pub flashOverride : ℕ
-flashOverride = 0
-
-abbrev pub flash : ℕ
-flash = 1
-
-abbrev pub immediate : ℕ
-immediate = 2
-
-abbrev pub priority : ℕ
-priority = 3
-
+-- the lowest level; the others are 0 FLASH OVERRIDE, 1 FLASH, 2 IMMEDIATE, 3 PRIORITY
 abbrev pub routine : ℕ
 routine = 4
 
@@ -33,15 +21,13 @@ routine = 4
 abbrev pub levelOk : ℕ → Bool
 levelOk l = leb l routine
 
--- LFB 00 allowed, 01 path reserved, 10 not allowed; 11 refused
-abbrev pub lfbOk : ℕ → Bool
-lfbOk l = leb l 2
-
+-- LFB: 00 allowed
 abbrev pub allowed : ℕ
 allowed = 0
 
-abbrev pub pathReserved : ℕ
-pathReserved = 1
+-- 01 path reserved, 10 not allowed, 11 refused
+abbrev pub lfbOk : ℕ → Bool
+lfbOk l = leb l 2
 
 -- two network identity digits in an octet, the first in the high half, each 0 to 9
 abbrev pub digitsOk : ℕ → Bool

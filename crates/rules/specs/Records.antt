@@ -1,11 +1,12 @@
 -- 01, "Records": its circuit, event and answer records. Only here, and in the message fields, does an octet have a place.
-use Prim.Native.Nat.{ℕ, zero, suc, _+_, _*_, _/_, _%_}
+use Prim.Native.Nat.{ℕ, _+_, _*_, _/_, _%_}
 use mathlib.Core.Bool.{Bool, true, cond, _&&_}
 use mathlib.Core.List.{List, [], _∷_, _++_}
-use lib.ListN.{length, getD, replicate, take, drop}
+use lib.ListN.{length, getD, replicate}
 use lib.Dec.{eqb, leb}
 use Rattle.octets.specs.Number.{octets}
 use Rattle.octets.specs.Part.{part, number, put, zeros}
+use Rattle.rules.specs.declared.mark.Mark.{Mark}
 use Rattle.rules.specs.declared.part.Part.{Part}
 use Rattle.rules.specs.declared.circuit.Circuit.{Circuit}
 use Rattle.rules.specs.declared.event.Event.{Event}
@@ -17,11 +18,7 @@ use Rattle.rules.specs.Layout.{Layout}
 -- a part at o: flag (0/1), level, domain (parameter octets 2-6), call reference
 abbrev pub partAt : List ℕ → ℕ → Part
 partAt t o =
-    record {
-      present = eqb (getD t o 0) 1;
-      mark = record { level = record { 0 = getD t (o + 1) 0 }; domain = part t (o + 2) 5 };
-      reference = part t (o + 7) 5
-    }
+    record { present = eqb (getD t o 0) 1; mark = record { level = record { 0 = getD t (o + 1) 0 }; domain = part t (o + 2) 5 }; reference = part t (o + 7) 5 }
 
 -- circuit, 32 octets: octets 0-11 are the holder's part, 12-27 the reservation's with the clock at 24-27
 abbrev pub circuitAt : List ℕ → ℕ → Circuit
@@ -52,18 +49,18 @@ blankPart t o w = cond (eqb (getD t o 0) 1) true (zeros (part t o w))
 unfoldable pub blankAt : List ℕ → ℕ → Bool
 blankAt t i = blankPart t (32 * i) 12 && blankPart t (32 * i + 12) 16 && zeros (part t (32 * i + 28) 4)
 
--- event, 16 octets: kind, 1-6 precedence parameter, 7-11 call reference, 12-15 clock; spare bits are ignored
+-- event, 1-6: precedence parameter
+abbrev pub markIn : List ℕ → Mark
+markIn e = record { level = record { 0 = levelIn (getD e 1 0) }; domain = part e 2 5 }
+
+-- event, 7-11: call reference, its spare bits as 0
+abbrev pub referenceIn : List ℕ → List ℕ
+referenceIn e = part e 7 4 ++ (getD e 11 0 % 64 ∷ [])
+
+-- event, 16 octets: 0 kind, parameter, reference, 12-15 clock
 abbrev pub eventAt : List ℕ → Event
 eventAt e =
-    record {
-      kind = getD e 0 0;
-      mark = record { level = record { 0 = levelIn (getD e 1 0) }; domain = part e 2 5 };
-      lfb = lfbIn (getD e 1 0);
-      plain = zeros (part e 1 6);
-      bare = zeros (part e 7 5);
-      reference = part e 7 4 ++ (getD e 11 0 % 64 ∷ []);
-      clock = number e 12 4
-    }
+    record { kind = getD e 0 0; mark = markIn e; lfb = lfbIn (getD e 1 0); plain = zeros (part e 1 6); bare = zeros (part e 7 5); reference = referenceIn e; clock = number e 12 4 }
 
 -- a party that was lost (0/1), and its reference
 abbrev pub loser : Part → List ℕ
@@ -75,22 +72,4 @@ answerOctets a = a .number ∷ causeOf (a .number) ∷ octets 2 (a .place) ++ lo
 
 unfoldable pub records : Layout (List ℕ)
 records =
-    record {
-      count = λ t. length t / 32;
-      view = circuitAt;
-      store = putCircuit;
-      flags = flagsAt;
-      blank = blankAt;
-      code = codeOk;
-      event = eventAt;
-      answer = answerOctets
-    }
-
--- a table is 1 to 256 records
-unfoldable pub tableLength : ℕ → Bool
-tableLength n = eqb (n % 32) 0 && leb 1 (n / 32) && leb (n / 32) 256
-
--- the n events that stand one after another in octets
-abbrev pub eventsIn : List ℕ → ℕ → List (List ℕ)
-eventsIn t zero = []
-eventsIn t (suc n) = take 16 t ∷ eventsIn (drop 16 t) n
+    record { count = λ t. length t / 32; view = circuitAt; store = putCircuit; flags = flagsAt; blank = blankAt; code = codeOk; event = eventAt; answer = answerOctets }

@@ -1,19 +1,9 @@
 -- Searches over the numbers 0, 1, .. below n, one number after the other.
 use Prim.Native.Nat.{ℕ, zero, suc, _+_}
-use mathlib.Core.Bool.{Bool, true, false, cond, _&&_, _||_}
+use mathlib.Core.Bool.{Bool, cond}
 use lib.Dec.{ltb}
 use Rattle.rules.specs.declared.search.Found.{Found}
 use Rattle.rules.specs.declared.search.Found.the-variants.{At, Nothing}
-
--- f holds of each number below n
-abbrev pub allTo : (ℕ → Bool) → ℕ → Bool
-allTo f zero = true
-allTo f (suc n) = allTo f n && f n
-
--- f holds of some number below n
-abbrev pub someTo : (ℕ → Bool) → ℕ → Bool
-someTo f zero = false
-someTo f (suc n) = someTo f n || f n
 
 -- how many of the numbers below n have f
 abbrev pub countTo : (ℕ → Bool) → ℕ → ℕ

@@ -2,6 +2,7 @@
 use Prim.Native.Nat.{ℕ, zero, suc, _*_, _/_, _%_}
 use mathlib.Core.Bool.{Bool, true, false, cond, _&&_, _||_, not}
 use mathlib.Core.List.{List}
+use lib.Dec.{eqb}
 use Rattle.octets.specs.Same.{same}
 use Rattle.rules.specs.declared.part.Part.{Part}
 use Rattle.rules.specs.declared.circuit.Circuit.{Circuit}
@@ -10,7 +11,7 @@ use Rattle.rules.specs.declared.verdict.Reason.the-variants.{FlagOrLevel
 use Rattle.rules.specs.declared.verdict.Verdict.{Verdict}
 use Rattle.rules.specs.declared.verdict.Verdict.the-variants.{Valid, Fault}
 use Rattle.rules.specs.Fields.{levelOk, decimal}
-use Rattle.rules.specs.Search.{someTo, firstTo, found}
+use Rattle.rules.specs.Search.{firstTo, found}
 use Rattle.rules.specs.Circuit.{outranks}
 use Rattle.rules.specs.Layout.{Layout}
 
@@ -18,28 +19,24 @@ use Rattle.rules.specs.Layout.{Layout}
 abbrev pub ifPresent : Part → Bool → Bool
 ifPresent p b = not (p .present) || b
 
+abbrev pub eachPart : (Part → Bool) → Circuit → Bool
+eachPart f c = ifPresent (c .holder) (f (c .holder)) && ifPresent (c .reservation) (f (c .reservation))
+
 -- levels 0 to 4
 unfoldable pub levelsOk : Circuit → Bool
-levelsOk c = ifPresent (c .holder) (levelOk (c .holder .mark .level .0)) && ifPresent (c .reservation) (levelOk (c .reservation .mark .level .0))
+levelsOk c = eachPart (λ p. levelOk (p .mark .level .0)) c
 
 -- digits 0 to 9 and point code spare bits 0
-abbrev pub partOk : (List ℕ → Bool) → Part → Bool
-partOk code p = ifPresent p (decimal (p .mark .domain) && code (p .reference))
-
 unfoldable pub fieldsOk : (List ℕ → Bool) → Circuit → Bool
-fieldsOk code c = partOk code (c .holder) && partOk code (c .reservation)
+fieldsOk code c = eachPart (λ p. decimal (p .mark .domain) && code (p .reference)) c
 
 -- where both parts are present, the reservation has the same domain and a strictly smaller level number than the holder
 unfoldable pub pairOk : Circuit → Bool
 pairOk c = ifPresent (c .holder) (ifPresent (c .reservation) (outranks (c .reservation .mark) (c .holder .mark)))
 
--- parts are numbered: 2 i is the holder's of circuit i, and 2 i + 1 its reservation's
-abbrev pub side : Circuit → ℕ → Part
-side c zero = c .holder
-side c (suc k) = c .reservation
-
+-- part k: 2 i is the holder's of circuit i, and 2 i + 1 its reservation's
 abbrev pub partNo : (ℕ → Circuit) → ℕ → Part
-partNo x k = side (x (k / 2)) (k % 2)
+partNo x k = cond (eqb (k % 2) 0) (x (k / 2) .holder) (x (k / 2) .reservation)
 
 -- a call reference stands in two parts whose flag is 1
 abbrev pub clash : Part → Part → Bool
@@ -47,7 +44,7 @@ clash p q = p .present && q .present && same (p .reference) (q .reference)
 
 -- the reference of part k stands in an earlier part
 unfoldable pub repeated : (ℕ → Circuit) → ℕ → Bool
-repeated x k = someTo (λ j. clash (partNo x j) (partNo x k)) k
+repeated x k = found (firstTo (λ j. clash (partNo x j) (partNo x k)) k) (λ j. true) false
 
 -- the first of two verdicts that is a fault
 abbrev pub orFault : Verdict → Verdict → Verdict

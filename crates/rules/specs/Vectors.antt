@@ -6,7 +6,7 @@ use mathlib.Core.List.{List, [], _∷_, _++_}
 use lib.ListN.{replicate}
 use Rattle.octets.specs.Number.{octets}
 use Rattle.octets.specs.Same.{same}
-use Rattle.rules.specs.Fields.{levelIn, lfbIn, immediate, priority, routine, pathReserved, decimal, codeOk}
+use Rattle.rules.specs.Fields.{levelIn, lfbIn, routine, decimal, codeOk}
 use Rattle.rules.specs.Circuit.{takeable, rank}
 use Rattle.rules.specs.Choice.{heldBy, reservedBy, choice}
 use Rattle.rules.specs.Event.{wellFormed, parameterOk}
@@ -32,6 +32,12 @@ looksAhead identity level clock = event 3 level identity clock
 
 unfoldable pub ticks : ℕ → List ℕ
 ticks clock = 5 ∷ replicate 11 0 ++ octets 4 clock
+
+unfoldable pub immediate : ℕ
+immediate = 2
+
+unfoldable pub priority : ℕ
+priority = 3
 
 -- the nine events of 01's listing, P10's and P11's
 unfoldable pub listing : List (List ℕ)
@@ -87,7 +93,7 @@ rows =
     ∷ (to wrapping 1, line 7 0 0 nobodyLost)
     ∷ (to wrapping 2, line 7 0 1 nobodyLost)
     ∷ (to backward 1, line 7 0 1 nobodyLost)
-    ∷ (levelIn 0x22 ∷ lfbIn 0x22 ∷ [], immediate ∷ pathReserved ∷ [])
+    ∷ (levelIn 0x22 ∷ lfbIn 0x22 ∷ [], immediate ∷ 1 ∷ [])
     ∷ (to (setsUp 1 0x22 ∷ []) 0, line 1 0 0 nobodyLost)
     ∷ (to (setsUp 1 0x62 ∷ []) 0, line 22 0 nowhere nobodyLost)
     ∷ []
@@ -97,5 +103,5 @@ allSame [] = true
 allSame (r ∷ rs) = same (r .0) (r .1) && allSame rs
 
 pub p1-to-p12 : allSame rows ≡ true
-unfolding event setsUp releases looksAhead ticks listing wrapping backward to line nobodyLost lost rows answer after effect decide decision setUp lookAhead release cancel onReservation choice heldBy reservedBy rank takeable answerOf valid verdict recordVerdict repeated levelsOk fieldsOk pairOk decimal codeOk wellFormed parameterOk records putCircuit flagsAt blankAt
+unfolding immediate priority event setsUp releases looksAhead ticks listing wrapping backward to line nobodyLost lost rows answer after effect decide decision setUp lookAhead release cancel onReservation choice heldBy reservedBy rank takeable answerOf valid verdict recordVerdict repeated levelsOk fieldsOk pairOk decimal codeOk wellFormed parameterOk records putCircuit flagsAt blankAt
 p1-to-p12 = refl

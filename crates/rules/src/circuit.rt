@@ -4,7 +4,6 @@ use crate::event::Event;
 use crate::mark::Mark;
 use crate::outcome::Act;
 use crate::part::Part;
-
 ghost use mathlib.Core.Path.{_≡_};
 ghost use Rattle.rules.specs.Circuit.{free, standing, takeable, rank, old, made};
 

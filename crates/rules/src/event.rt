@@ -1,7 +1,6 @@
 // What an event says.
 use crate::mark::Mark;
 use crate::part::Part;
-
 ghost use mathlib.Core.Path.{_≡_};
 ghost use Rattle.rules.specs.Fields.{decimal, digitsOk};
 ghost use Rattle.rules.specs.Circuit.{party};
@@ -22,7 +21,11 @@ pub struct Event {
 pub fn digits_ok(octet: u8) -> bool
     ensures { λ r. ⌜ r ≡ digitsOk octet ⌝ }
 {
-    if octet / 16 <= 9 { octet % 16 <= 9 } else { false }
+    if octet / 16 <= 9 {
+        octet % 16 <= 9
+    } else {
+        false
+    }
 }
 
 // The four network identity digits of a domain.
@@ -68,8 +71,10 @@ impl Event {
     {
         let kind = self.kind;
         match kind {
-            1 | 3 => self.parameter_ok(),
-            2 | 4 => self.plain,
+            1 => self.parameter_ok(),
+            2 => self.plain,
+            3 => self.parameter_ok(),
+            4 => self.plain,
             5 => if self.plain { self.bare } else { false },
             _ => false,
         }

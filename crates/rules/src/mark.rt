@@ -1,6 +1,5 @@
 // A mark: the level and the domain under which a call stands on a circuit.
 use crate::level::Level;
-
 ghost use mathlib.Core.Path.{_≡_};
 ghost use Rattle.rules.specs.Circuit.{outranks, sameMark, unmarked};
 
@@ -39,8 +38,10 @@ impl Mark {
     pub fn emptied(mut self) -> Mark
         ensures { λ r. ⌜ r ≡ unmarked ⌝ }
     {
-        self.level = Level(0);
-        self.domain = [0u8; 5];
+        let level = Level(0);
+        let domain = [0u8; 5];
+        self.level = level;
+        self.domain = domain;
         self
     }
 }

@@ -1,6 +1,5 @@
 // One part of a circuit: its holder, or its reservation.
 use crate::mark::Mark;
-
 ghost use mathlib.Core.Path.{_≡_};
 ghost use Rattle.rules.specs.Circuit.{nobody, isOf};
 
@@ -27,9 +26,11 @@ impl Part {
     pub fn emptied(mut self) -> Part
         ensures { λ r. ⌜ r ≡ nobody ⌝ }
     {
+        let mark = self.mark.emptied();
+        let reference = [0u8; 5];
         self.present = false;
-        self.mark = self.mark.emptied();
-        self.reference = [0u8; 5];
+        self.mark = mark;
+        self.reference = reference;
         self
     }
 }
