@@ -3,8 +3,8 @@ use Prim.Native.Nat.{ℕ, zero, suc, _+_, _<_, _≤_}
 use mathlib.Core.Path.{_≡_, refl, sym, ap, ap₂, _∙_, subst}
 use mathlib.Core.Logic.{⊎-elim, _⊎_, inl, inr}
 use mathlib.Core.Bool.{Bool, true, false, _&&_}
-use mathlib.Core.List.{List, [], _∷_, _++_}
-use native.Mathlib.Nat.{not-suc-le-zero, eq-or-lt-of-le, le-of-suc-le-suc, zero-add, add-assoc}
+use mathlib.Core.List.{List, [], _∷_, _++_, append-nil, append-assoc}
+use native.Mathlib.Nat.{not-suc-le-zero, eq-or-lt-of-le, le-of-suc-le-suc, zero-add, add-zero, add-suc, add-assoc}
 use native.Mathlib.Numerals.{add-one}
 use native.Mathlib.Omega.{arith}
 use lib.ListN.{length, getD, set, replicate, length-set, length-append, List·getD-append}
@@ -14,6 +14,7 @@ use borrow.Author.Tests.{eqb-true}
 use Rattle.octets.specs.Number.{value, Octets}
 use Rattle.octets.specs.Part.{part, number, putTo, put, zeros}
 use Rattle.octets.proofs.Tests.{and-left, and-right}
+use Rattle.octets.proofs.Width.{octet-at}
 
 -- what holds below n and at n holds below suc n
 pub grow : (P : ℕ → Type 0) (n : ℕ) → ((j : ℕ) → j < n → P j) → P n → (j : ℕ) → j < suc n → P j
@@ -36,6 +37,23 @@ pub part-all : (l : List ℕ) (w : ℕ) → length l ≡ w → part l 0 w ≡ l
 part-all l w e =
     ext-getD 0 (part l 0 w) l (length-part l 0 w ∙ sym e)
     (λ i h. part-at l 0 w i (omega (arith, length-part l 0 w)) ∙ ap (λ (n : ℕ). getD l n 0) (zero-add i))
+
+-- two parts, one behind the other, are one
+pub part-append : (t : List ℕ) (o a b : ℕ) → part t o (a + b) ≡ part t o a ++ part t (o + a) b
+part-append t o a zero = ap (part t o) (add-zero a) ∙ sym (append-nil (part t o a))
+part-append t o a (suc b) =
+    ap (part t o) (add-suc a b)
+    ∙ ap₂ (λ (l : List ℕ) (n : ℕ). l ++ (getD t n 0 ∷ [])) (part-append t o a b) (sym (add-assoc o a b))
+    ∙ append-assoc (part t o a) (part t (o + a) b) (getD t (o + a + b) 0 ∷ [])
+
+-- a part of octets is octets
+octets-append : (l m : List ℕ) → Octets l → Octets m → Octets (l ++ m)
+octets-append [] m h k = k
+octets-append (b ∷ bs) m h k = (h .0, octets-append bs m (h .1) k)
+
+pub octets-part : (t : List ℕ) → Octets t → (o w : ℕ) → Octets (part t o w)
+octets-part t h o zero = tt
+octets-part t h o (suc w) = octets-append (part t o w) (getD t (o + w) 0 ∷ []) (octets-part t h o w) (octet-at t h (o + w), tt)
 
 -- ---- two rows of octets agree on w octets, from o in the one and from p in the other
 module _ (s : List ℕ) (o : ℕ) (t : List ℕ) (p : ℕ) where
@@ -116,6 +134,11 @@ pub zeros-at : (l : List ℕ) → zeros l ≡ true → (i : ℕ) → getD l i 0 
 zeros-at [] h i = refl
 zeros-at (b ∷ bs) h zero = eqb-true b 0 (and-left (eqb b 0) (zeros bs) h)
 zeros-at (b ∷ bs) h (suc i) = zeros-at bs (and-right (eqb b 0) (zeros bs) h) i
+
+pub zeros-all : (l : List ℕ) → zeros l ≡ true → l ≡ replicate (length l) 0
+zeros-all [] h = refl
+zeros-all (b ∷ bs) h =
+    ap₂ (λ (x : ℕ) (l : List ℕ). x ∷ l) (eqb-true b 0 (and-left (eqb b 0) (zeros bs) h)) (zeros-all bs (and-right (eqb b 0) (zeros bs) h))
 
 -- a zero part agrees with the empty row, which is 0 everywhere
 pub zeros-agree : (t : List ℕ) (o w : ℕ) → zeros (part t o w) ≡ true → Agree t o [] 0 w
