@@ -38,7 +38,7 @@ precise v h =
       second = leb-true _ _ (e .0);
       third = leb-true _ _ (f .0);
       fourth = leb-true _ _ (f .1);
-      domain = ltb-true _ _ (c .1)
+      domain = ltb-true _ _ (c .1);
     }
 
 pub record Exact (v : Reference) : Type 0 where

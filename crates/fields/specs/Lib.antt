@@ -1,3 +1,4 @@
 pub mod Field
 pub mod Reference
 pub mod Precedence
+pub mod RoundTrip

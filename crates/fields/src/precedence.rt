@@ -1,6 +1,5 @@
 // The precedence parameter: six octets.
 use rules::level::Level;
-
 ghost use mathlib.Core.Path.{_≡_};
 ghost use Prim.Native.Nat.{_+_};
 ghost use lib.ListN.{length};
