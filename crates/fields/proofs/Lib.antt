@@ -1,2 +1,3 @@
 pub mod Within
 pub mod RoundTrip
+pub mod Determined

@@ -1,0 +1,25 @@
+-- The loop counts to nine.
+use Prim.Native.Nat.{_≤_, _-_}
+use native.Mathlib.Omega.{arith}
+use borrow.Author.Needs.{needs}
+use Rattle.fields_vectors.proofs.text.octets.Statement.{statement}
+use Rattle.fields_vectors.proofs.text.octets.Tie as tie
+
+abbrev Inv-loop : tie.InvT-loop
+Inv-loop s k₀ k = k ≤ 9
+
+abbrev μ-loop : tie.MeasureT-loop
+μ-loop s k₀ k = 9 - k
+
+pub octets-spec : {M : Type 1} → statement M
+octets-spec =
+    tie.close
+    (tie.spec
+    Inv-loop
+    μ-loop
+    (λ c. search needs)
+    (λ c κs. search needs)
+    (λ c. search needs)
+    (λ c. search needs)
+    (λ c. search needs)
+    (λ c. search needs))
