@@ -1,2 +1,4 @@
 pub mod Lawful
 pub mod Records
+pub mod Searches
+pub mod Choice
