@@ -10,7 +10,7 @@ use Rattle.rules.specs.declared.circuit.Circuit.{Circuit}
 use Rattle.rules.specs.declared.search.Found.{Found}
 use Rattle.rules.specs.declared.search.Found.the-variants.{At, Nothing}
 use Rattle.rules.specs.Search.{orElse, firstTo, bestTo}
-use Rattle.rules.specs.Circuit.{free, standing, takeable, rank}
+use Rattle.rules.specs.Circuit.{free, standing, takeable, worth, rank}
 use Rattle.rules.specs.Choice.{choice}
 use Rattle.rules.proofs.Searches.{FirstIs, first-is, BestIs, best-is}
 
@@ -37,18 +37,19 @@ ChoiceIs x n m (At i) =
     × (takeable m (x i) ≡ true)
     × ((j : ℕ) → j < n → takeable m (x j) ≡ true → Rather (x i) i (x j) j)))
 
--- ---- a rank is a level number and whether there is a holder
-abbrev worth : Circuit → Bool → ℕ
-worth c b = 1 + 2 * level c + cond b 0 1
-
+-- ---- a rank is the worth of a takeable circuit
 module _ (m : Mark) (c : Circuit) where
-  pub rank-taken : takeable m c ≡ true → rank m c ≡ worth c (c .holder .present)
+  pub rank-taken : takeable m c ≡ true → rank m c ≡ worth c
   unfolding rank
-  rank-taken h = ap (λ (b : Bool). cond b (worth c (c .holder .present)) 0) h
+  rank-taken h = ap (λ (b : Bool). cond b (worth c) 0) h
 
   pub rank-not : takeable m c ≡ false → rank m c ≡ 0
   unfolding rank
-  rank-not h = ap (λ (b : Bool). cond b (worth c (c .holder .present)) 0) h
+  rank-not h = ap (λ (b : Bool). cond b (worth c) 0) h
+
+  worth-above : 0 < worth c
+  unfolding worth
+  worth-above = omega arith
 
   rank-above : 0 < rank m c → takeable m c ≡ true
   rank-above h = go (takeable m c) refl
@@ -61,33 +62,37 @@ module _ (m : Mark) (c : Circuit) where
   rank-zero h = go (takeable m c) refl
     where
       go : (b : Bool) → takeable m c ≡ b → takeable m c ≡ false
-      go true e = absurd (let z = rank-taken e in omega arith)
+      go true e = absurd (let z = rank-taken e in omega (arith, worth-above))
       go false e = e
 
-module _ (x y : Circuit) (i j : ℕ) where
-  -- no smaller worth, and a greater one than what stands before
-  rather : (a b : Bool) → x .holder .present ≡ a → y .holder .present ≡ b → worth y b ≤ worth x a → (j < i → worth y b < worth x a) → Rather x i y j
-  rather a b p q h g = go (decLt (level y) (level x))
-    where
-      lower : (a b : Bool) → worth y b ≤ worth x a → level y ≤ level x
-      lower true true h = omega arith
-      lower true false h = omega arith
-      lower false true h = omega arith
-      lower false false h = omega arith
+-- the worth of a circuit with a holder, and of one with none
+worth-held : (c : Circuit) → c .holder .present ≡ true → worth c ≡ 1 + 2 * level c
+unfolding worth
+worth-held c h = let e = ap (λ (b : Bool). cond {A = ℕ} b 0 1) h in omega arith
 
-      number : worth y b ≡ worth x a → i ≤ j
-      number e = elim (decLt j i) [ yes l ↦ absurd (let z = g l in omega arith) | no n ↦ omega arith ]
+worth-unheld : (c : Circuit) → c .holder .present ≡ false → worth c ≡ 2 + 2 * level c
+unfolding worth
+worth-unheld c h = let e = ap (λ (b : Bool). cond {A = ℕ} b 0 1) h in omega arith
 
-      holder : (a b : Bool) → x .holder .present ≡ a → y .holder .present ≡ b → level x ≡ level y → worth y b ≤ worth x a → (worth y b ≡ worth x a → i ≤ j)
-          → ((x .holder .present ≡ false) × (y .holder .present ≡ true)) ⊎ ((x .holder .present ≡ y .holder .present) × (i ≤ j))
-      holder true true p q e h k = inr (p ∙ sym q, k (omega arith))
-      holder true false p q e h k = absurd (omega arith)
-      holder false true p q e h k = inl (p, q)
-      holder false false p q e h k = inr (p ∙ sym q, k (omega arith))
-
-      go : Dec (level y < level x) → Rather x i y j
-      go (yes l) = inl l
-      go (no n) = let e : level x ≡ level y = (let z = lower a b h in omega arith) in inr (e, holder a b p q e h number)
+-- one of no smaller worth, and of a greater one than those before it, is taken rather
+rather : (x y : Circuit) (i j : ℕ) → worth y ≤ worth x → (j < i → worth y < worth x) → Rather x i y j
+rather x y i j h g = go (x .holder .present) (y .holder .present) refl refl
+  where
+    -- the two are of one kind, so the level decides, and at equal level the number
+    alike : (k : ℕ) → worth x ≡ k + 2 * level x → worth y ≡ k + 2 * level y → x .holder .present ≡ y .holder .present → Rather x i y j
+    alike k p q e =
+        elim (decLt (level y) (level x))
+        [ yes l ↦ inl l
+        | no l ↦ inr (omega arith, inr (e, elim (decLt j i) [ yes b ↦ absurd (let z = g b in omega arith) | no b ↦ omega arith ]))
+        ]
+    go : (a b : Bool) → x .holder .present ≡ a → y .holder .present ≡ b → Rather x i y j
+    go true true p q = alike 1 (worth-held x p) (worth-held y q) (p ∙ sym q)
+    go false false p q = alike 2 (worth-unheld x p) (worth-unheld y q) (p ∙ sym q)
+    go true false p q = inl (let u = worth-held x p in let v = worth-unheld y q in omega arith)
+    go false true p q =
+        let u = worth-unheld x p in
+        let v = worth-held y q in
+        elim (decLt (level y) (level x)) [ yes l ↦ inl l | no l ↦ inr (omega arith, inl (p, q)) ]
 
 module _ (x : ℕ → Circuit) (n : ℕ) (m : Mark) where
   chosen : (a b : Found) → FirstIs (λ i. free (x i)) n a → BestIs (λ i. rank m (x i)) n b → ChoiceIs x n m (orElse a b)
@@ -101,7 +106,7 @@ module _ (x : ℕ → Circuit) (n : ℕ) (m : Mark) where
           ti,
           λ j l tj.
               let rj = rank-taken m (x j) tj in
-              rather (x i) (x j) i j (x i .holder .present) (x j .holder .present) refl refl (omega (arith, g .2 j l)) (λ s. omega (arith, g .3 j s)),
+              rather (x i) (x j) i j (omega (arith, g .2 j l)) (λ s. omega (arith, g .3 j s)),
         ),
       )
   chosen Nothing Nothing f g = λ c l. (f c l, rank-zero m (x c) (g c l))

@@ -57,9 +57,13 @@ free c = not (c .holder .present) && not (c .reservation .present)
 unfoldable pub takeable : Mark → Circuit → Bool
 takeable m c = not (free c) && outranks m (standing c)
 
--- among takeable ones the greatest level number; at equal level one with no holder before one with a holder
+-- the greatest level number first; at equal level one with no holder before one with a holder
+unfoldable pub worth : Circuit → ℕ
+worth c = 1 + 2 * standing c .level .0 + cond (c .holder .present) 0 1
+
+-- by which takeable circuits are chosen; 0 for one that is not takeable
 unfoldable pub rank : Mark → Circuit → ℕ
-rank m c = cond (takeable m c) (1 + 2 * standing c .level .0 + cond (c .holder .present) 0 1) 0
+rank m c = cond (takeable m c) (worth c) 0
 
 -- the clock less the stored clock, modulo 4,294,967,296
 abbrev pub age : ℕ → ℕ → ℕ

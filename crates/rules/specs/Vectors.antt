@@ -7,7 +7,7 @@ use lib.ListN.{replicate}
 use Rattle.octets.specs.Number.{octets}
 use Rattle.octets.specs.Same.{same}
 use Rattle.rules.specs.Fields.{levelIn, lfbIn, routine, decimal, codeOk}
-use Rattle.rules.specs.Circuit.{takeable, rank}
+use Rattle.rules.specs.Circuit.{takeable, worth, rank}
 use Rattle.rules.specs.Choice.{heldBy, reservedBy, choice}
 use Rattle.rules.specs.Event.{wellFormed, parameterOk}
 use Rattle.rules.specs.Decision.{onReservation, setUp, lookAhead, release, cancel, decision}
@@ -103,5 +103,5 @@ allSame [] = true
 allSame (r ∷ rs) = same (r .0) (r .1) && allSame rs
 
 pub p1-to-p12 : allSame rows ≡ true
-unfolding immediate priority event setsUp releases looksAhead ticks listing wrapping backward to line nobodyLost lost rows answer after effect decide decision setUp lookAhead release cancel onReservation choice heldBy reservedBy rank takeable answerOf valid verdict recordVerdict repeated levelsOk fieldsOk pairOk decimal codeOk wellFormed parameterOk records putCircuit flagsAt blankAt
+unfolding immediate priority event setsUp releases looksAhead ticks listing wrapping backward to line nobodyLost lost rows answer after effect decide decision setUp lookAhead release cancel onReservation choice heldBy reservedBy rank worth takeable answerOf valid verdict recordVerdict repeated levelsOk fieldsOk pairOk decimal codeOk wellFormed parameterOk records putCircuit flagsAt blankAt
 p1-to-p12 = refl
