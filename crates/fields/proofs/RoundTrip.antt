@@ -8,10 +8,10 @@ use lib.ListN.{length, getD, set}
 use lib.Dec.{eqb, leb, ltb}
 use borrow.Author.Tests.{eqb-true, eq-eqb, le-leb, lt-ltb, leb-true}
 use Rattle.octets.specs.Number.{value, octets, valueHigh, octetsHigh, Octets}
-use Rattle.octets.specs.Part.{part}
+use Rattle.octets.specs.Span.{span}
 use Rattle.octets.proofs.Tests.{and-left, and-right, and-both}
 use Rattle.octets.proofs.Width.{value-octets, octets-value, value-lt, valueHigh-octetsHigh, octetsHigh-valueHigh, octet-at}
-use Rattle.octets.proofs.Parts.{part-all, octets-part}
+use Rattle.octets.proofs.Spans.{span-all, octets-span}
 use Rattle.rules.specs.Fields.{levelIn, lfbIn, levelOk, lfbOk, digitsOk}
 use Rattle.fields.specs.declared.precedence.Precedence.{Precedence}
 use Rattle.fields.specs.declared.reference.Reference.{Reference}
@@ -55,15 +55,15 @@ reference-read-back b v h =
 reference-octets : (s : List ℕ) → Octets s → length s ≡ 5 → reference.octetsOf (reference.valuesOf s) ≡ reference.spareless s
 unfolding reference.valuesOf reference.octetsOf
 reference-octets s o n =
-    let five : part s 0 5 ≡ s = part-all s 5 n in
-    let identity = octets-value (part s 0 3) (octets-part s o 0 3) in
+    let five : span s 0 5 ≡ s = span-all s 5 n in
+    let identity = octets-value (span s 0 3) (octets-span s o 0 3) in
     let point = octets-value (getD s 3 0 ∷ getD s 4 0 % 64 ∷ []) (octet-at s o 3, (omega arith, tt)) in
     (λ i. identity i ++ point i) ∙ ap (λ (l : List ℕ). set l 4 (getD s 4 0 % 64)) five
 
 reference-writable : (s : List ℕ) → Octets s → reference.writable (reference.valuesOf s) ≡ true
 unfolding reference.valuesOf reference.writable
 reference-writable s o =
-    and-both _ _ (lt-ltb (value (part s 0 3)) 16777216 (value-lt (part s 0 3) (octets-part s o 0 3)))
+    and-both _ _ (lt-ltb (value (span s 0 3)) 16777216 (value-lt (span s 0 3) (octets-span s o 0 3)))
     (lt-ltb (value (getD s 3 0 ∷ getD s 4 0 % 64 ∷ [])) 16384 (omega (arith, octet-at s o 3)))
 
 pub reference-written-back : ReferenceWrittenBack
@@ -94,7 +94,7 @@ precedence-values v n k =
     let low0 : (16 * d0 + d1) % 16 ≡ d1 = omega (arith, k .second) in
     let high1 : (16 * d2 + d3) / 16 ≡ d2 = omega (arith, k .fourth) in
     let low1 : (16 * d2 + d3) % 16 ≡ d3 = omega (arith, k .fourth) in
-    let digits : part (v .digits) 0 4 ≡ v .digits = part-all (v .digits) 4 n in
+    let digits : span (v .digits) 0 4 ≡ v .digits = span-all (v .digits) 4 n in
     λ i.
     record {
       level = level i;
@@ -136,10 +136,10 @@ module _ (s : List ℕ) (o : Octets s) where
   precedence-octets : length s ≡ 6 → precedence.octetsOf (precedence.valuesOf s) ≡ precedence.spareless s
   unfolding precedence.valuesOf precedence.octetsOf
   precedence-octets n =
-      let six : part s 0 6 ≡ s = part-all s 6 n in
+      let six : span s 0 6 ≡ s = span-all s 6 n in
       let b : 16 * (getD s 1 0 / 16) + getD s 1 0 % 16 ≡ getD s 1 0 = omega arith in
       let c : 16 * (getD s 2 0 / 16) + getD s 2 0 % 16 ≡ getD s 2 0 = omega arith in
-      let domain = octetsHigh-valueHigh (part s 3 3) (octet-at s o 5, (octet-at s o 4, (octet-at s o 3, tt))) in
+      let domain = octetsHigh-valueHigh (span s 3 3) (octet-at s o 5, (octet-at s o 4, (octet-at s o 3, tt))) in
       let first = precedence.firstOctet (lfbIn (getD s 0 0)) (levelIn (getD s 0 0)) in
       (λ i. first ∷ b i ∷ c i ∷ domain i) ∙ ap (λ (l : List ℕ). set l 0 first) six
 
@@ -153,7 +153,7 @@ module _ (s : List ℕ) (o : Octets s) where
       let fbc = and-right l (f && (b && c)) h in
       let bc = and-right f (b && c) fbc in
       let digits = and-assoc (leb (getD s 1 0 / 16) 9) (leb (getD s 1 0 % 16) 9) c bc in
-      let domain = lt-ltb (valueHigh (part s 3 3)) 16777216 (value-lt (getD s 5 0 ∷ getD s 4 0 ∷ getD s 3 0 ∷ []) (octet-at s o 5, (octet-at s o 4, (octet-at s o 3, tt)))) in
+      let domain = lt-ltb (valueHigh (span s 3 3)) 16777216 (value-lt (getD s 5 0 ∷ getD s 4 0 ∷ getD s 3 0 ∷ []) (octet-at s o 5, (octet-at s o 4, (octet-at s o 3, tt)))) in
       and-both l _ (and-left l (f && (b && c)) h) (and-both f _ (and-left f (b && c) fbc) (and-both _ _ digits domain))
 
 pub precedence-written-back : PrecedenceWrittenBack

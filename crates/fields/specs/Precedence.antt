@@ -5,7 +5,7 @@ use mathlib.Core.List.{List, [], _∷_, _++_}
 use lib.ListN.{getD, set}
 use lib.Dec.{leb, ltb}
 use Rattle.octets.specs.Number.{valueHigh, octetsHigh}
-use Rattle.octets.specs.Part.{part}
+use Rattle.octets.specs.Span.{span}
 use Rattle.rules.specs.declared.outcome.Refusal.the-variants.{Malformed}
 use Rattle.rules.specs.Fields.{levelIn, lfbIn, levelOk, lfbOk, digitsOk}
 use Rattle.rules.specs.Numbers.{lengthWrong, refusalNumber}
@@ -32,7 +32,7 @@ valuesOf s =
       level = levelIn (getD s 0 0);
       lfb = lfbIn (getD s 0 0);
       digits = digitsOf (getD s 1 0) (getD s 2 0);
-      domain = valueHigh (part s 3 3);
+      domain = valueHigh (span s 3 3);
     }
 
 -- octets 1 to 3 have a level 0 to 4, an LFB indicator other than 11, and digits 0 to 9

@@ -5,7 +5,7 @@ use mathlib.Core.List.{List, [], _∷_, _++_}
 use lib.ListN.{length, getD, set}
 use lib.Dec.{eqb, ltb}
 use Rattle.octets.specs.Number.{value, octets}
-use Rattle.octets.specs.Part.{part, number}
+use Rattle.octets.specs.Span.{span, number}
 use Rattle.rules.specs.declared.outcome.Refusal.the-variants.{Malformed}
 use Rattle.rules.specs.Numbers.{lengthWrong, refusalNumber}
 use Rattle.fields.specs.declared.reference.Reference.{Reference}

@@ -10,7 +10,7 @@ use lib.Seq.{ext-getD}
 use borrow.Author.Tests.{eqb-true, eq-eqb, ne-eqb}
 use Rattle.octets.specs.Same.{same}
 use Rattle.octets.proofs.Tests.{and-left, and-right, and-both, by-eq}
-use Rattle.octets.proofs.Parts.{grow}
+use Rattle.octets.proofs.Spans.{grow}
 
 pub same-true : (a b : List ℕ) → same a b ≡ true → a ≡ b
 same-true [] [] h = refl
@@ -22,6 +22,15 @@ same-true (x ∷ xs) (y ∷ ys) h =
 pub same-refl : (a : List ℕ) → same a a ≡ true
 same-refl [] = refl
 same-refl (x ∷ xs) = and-both (eqb x x) (same xs xs) (eq-eqb x x refl) (same-refl xs)
+
+pub same-sym : (a b : List ℕ) → same a b ≡ same b a
+same-sym [] [] = refl
+same-sym [] (y ∷ ys) = refl
+same-sym (x ∷ xs) [] = refl
+same-sym (x ∷ xs) (y ∷ ys) = ap₂ (λ (p q : Bool). p && q) turned (same-sym xs ys)
+  where
+    turned : eqb x y ≡ eqb y x
+    turned = by-eq x y (λ q. eq-eqb x y q ∙ sym (eq-eqb y x (sym q))) (λ q. ne-eqb x y q ∙ sym (ne-eqb y x (λ z. q (sym z))))
 
 -- a place where they differ
 pub same-differ : (a b : List ℕ) (k : ℕ) → (getD a k 0 ≡ getD b k 0 → ⊥) → same a b ≡ false

@@ -79,3 +79,18 @@ by-eq a b {A} f g = go (ℕ-discrete a b)
     go : Dec (a ≡ b) → A
     go (yes q) = f q
     go (no q) = g q
+
+-- a test holds or not
+pub by-so : (b : Bool) {A : Type 0} → (b ≡ true → A) → (b ≡ false → A) → A
+by-so true f g = f refl
+by-so false f g = g refl
+
+-- what holds either way holds of a `cond`
+pub by-test : {A : Type 0} (P : A → Type 0) (b : Bool) (x y : A) → (b ≡ true → P x) → (b ≡ false → P y) → P (cond b x y)
+by-test P true x y f g = f refl
+by-test P false x y f g = g refl
+
+-- what does not hold fails
+pub not-so : (b : Bool) → b ≢ true → b ≡ false
+not-so true h = absurd (h refl)
+not-so false h = refl

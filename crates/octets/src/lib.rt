@@ -4,7 +4,7 @@ ghost use mathlib.Core.List.{_∷_, []};
 ghost use Prim.Native.Nat.{_+_, _≤_};
 ghost use lib.ListN.{length};
 ghost use Rattle.octets.specs.Number.{value, octets};
-ghost use Rattle.octets.specs.Part.{part, number, put, zeros};
+ghost use Rattle.octets.specs.Span.{span, number, put};
 ghost use Rattle.octets.specs.Same.{same};
 
 // Whether two domains, or two references, are the same: all five octets.
@@ -29,7 +29,7 @@ pub fn same_five(a: [u8; 5], b: [u8; 5]) -> bool
 // The five octets at a place.
 pub fn read_five(s: &[u8], at: usize) -> [u8; 5]
     requires { ⌜ at + 5 ≤ length (now s) ⌝ }
-    ensures { λ r. ⌜ r ≡ part (now (s .entry)) at 5 ⌝ }
+    ensures { λ r. ⌜ r ≡ span (now (s .entry)) at 5 ⌝ }
 {
     [s[at], s[at + 1], s[at + 2], s[at + 3], s[at + 4]]
 }

@@ -81,10 +81,11 @@ rather x y i j h g = go (x .holder .present) (y .holder .present) refl refl
     -- the two are of one kind, so the level decides, and at equal level the number
     alike : (k : ℕ) → worth x ≡ k + 2 * level x → worth y ≡ k + 2 * level y → x .holder .present ≡ y .holder .present → Rather x i y j
     alike k p q e =
-        elim (decLt (level y) (level x))
-        [ yes l ↦ inl l
-        | no l ↦ inr (omega arith, inr (e, elim (decLt j i) [ yes b ↦ absurd (let z = g b in omega arith) | no b ↦ omega arith ]))
+        elim (decLt (level y) (level x)) [
+          | yes l ↦ inl l
+          | no l ↦ inr (omega arith, inr (e, elim (decLt j i) [ yes b ↦ absurd (let z = g b in omega arith) | no b ↦ omega arith ]))
         ]
+
     go : (a b : Bool) → x .holder .present ≡ a → y .holder .present ≡ b → Rather x i y j
     go true true p q = alike 1 (worth-held x p) (worth-held y q) (p ∙ sym q)
     go false false p q = alike 2 (worth-unheld x p) (worth-unheld y q) (p ∙ sym q)

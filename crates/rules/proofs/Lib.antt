@@ -2,3 +2,9 @@ pub mod Lawful
 pub mod Records
 pub mod Searches
 pub mod Choice
+pub mod Faults
+pub mod Sound
+pub mod Unique
+pub mod Right
+pub mod Effect
+pub mod Kept

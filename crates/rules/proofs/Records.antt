@@ -11,10 +11,10 @@ use lib.ListN.{length, getD, replicate}
 use lib.Dec.{leb, eqb}
 use borrow.Author.Tests.{lt-ltb, leb-true, eq-eqb, ne-eqb}
 use Rattle.octets.specs.Number.{octets, value, Octets}
-use Rattle.octets.specs.Part.{part, number, put, zeros}
+use Rattle.octets.specs.Span.{span, number, put, zeros}
 use Rattle.octets.proofs.Tests.{and-left, and-right, and-both, by-eq}
 use Rattle.octets.proofs.Width.{value-octets, octets-value}
-use Rattle.octets.proofs.Parts.{length-part, part-at, part-all, part-append, octets-part, Agree, part-cong, agree-first, agree-sub, length-put, put-off, put-on, put-same, zeros-all, zeros-agree, empty-agree}
+use Rattle.octets.proofs.Spans.{length-span, span-at, span-all, span-append, octets-span, Agree, span-cong, agree-first, agree-sub, length-put, put-off, put-on, put-same, zeros-all, zeros-agree, empty-agree}
 use Rattle.rules.specs.declared.part.Part.{Part}
 use Rattle.rules.specs.declared.circuit.Circuit.{Circuit}
 use Rattle.rules.specs.Fields.{codeOk}
@@ -32,13 +32,13 @@ module _ (s : List ℕ) (o : ℕ) (t : List ℕ) (p : ℕ) where
         mark =
             record {
               level = record { 0 = h 1 (omega arith) i };
-              domain = part-cong s (o + 2) t (p + 2) 5 (agree-sub s o t p 12 2 5 (omega arith) h) i;
+              domain = span-cong s (o + 2) t (p + 2) 5 (agree-sub s o t p 12 2 5 (omega arith) h) i;
             };
-        reference = part-cong s (o + 7) t (p + 7) 5 (agree-sub s o t p 12 7 5 (omega arith) h) i;
+        reference = span-cong s (o + 7) t (p + 7) 5 (agree-sub s o t p 12 7 5 (omega arith) h) i;
       }
 
   blank-part-cong : (w : ℕ) → 0 < w → Agree s o t p w → blankPart s o w ≡ blankPart t p w
-  blank-part-cong w f h = λ i. cond (eqb (agree-first s o t p w h f i) 1) true (zeros (part-cong s o t p w h i))
+  blank-part-cong w f h = λ i. cond (eqb (agree-first s o t p w h f i) 1) true (zeros (span-cong s o t p w h i))
 
 module _ (s : List ℕ) (i : ℕ) (t : List ℕ) (j : ℕ) (h : Agree s (32 * i) t (32 * j) 32) where
   sub : (a v : ℕ) → a + v ≤ 32 → Agree s (32 * i + a) t (32 * j + a) v
@@ -53,7 +53,7 @@ module _ (s : List ℕ) (i : ℕ) (t : List ℕ) (j : ℕ) (h : Agree s (32 * i)
       record {
         holder = party-cong s (32 * i) t (32 * j) (whole 12 (omega arith)) d;
         reservation = party-cong s (32 * i + 12) t (32 * j + 12) (sub 12 12 (omega arith)) d;
-        clock = value (part-cong s (32 * i + 24) t (32 * j + 24) 4 (sub 24 4 (omega arith)) d);
+        clock = value (span-cong s (32 * i + 24) t (32 * j + 24) 4 (sub 24 4 (omega arith)) d);
       }
 
   flags-cong : flagsAt s i ≡ flagsAt t j
@@ -67,7 +67,7 @@ module _ (s : List ℕ) (i : ℕ) (t : List ℕ) (j : ℕ) (h : Agree s (32 * i)
       λ d.
       blank-part-cong s (32 * i) t (32 * j) 12 (omega arith) (whole 12 (omega arith)) d
       && blank-part-cong s (32 * i + 12) t (32 * j + 12) 16 (omega arith) (sub 12 16 (omega arith)) d
-      && zeros (part-cong s (32 * i + 28) t (32 * j + 28) 4 (sub 28 4 (omega arith)) d)
+      && zeros (span-cong s (32 * i + 28) t (32 * j + 28) 4 (sub 28 4 (omega arith)) d)
 
 -- ---- what is written, by itself
 abbrev Five : List ℕ → Type 0
@@ -95,8 +95,8 @@ circuit-back y f =
         λ i.
         record {
           present = flag-back (p .present) i;
-          mark = record { level = p .mark .level; domain = part-all (p .mark .domain) 5 (g .0) i };
-          reference = part-all (p .reference) 5 (g .1) i;
+          mark = record { level = p .mark .level; domain = span-all (p .mark .domain) 5 (g .0) i };
+          reference = span-all (p .reference) 5 (g .1) i;
         }
 
 flags-back : (y : Circuit) → flagsAt (circuitOctets y) 0 ≡ true
@@ -109,12 +109,12 @@ unfolding blankAt
 blank-back y t = λ d. holder (y .holder .present) refl d && reservation (y .reservation .present) refl d && true
   where
     holder : (b : Bool) → y .holder .present ≡ b → blankPart (circuitOctets y) 0 12 ≡ true
-    holder true q = λ d. cond (eqb (flag (q d)) 1) true (zeros (part (circuitOctets y) 0 12))
+    holder true q = λ d. cond (eqb (flag (q d)) 1) true (zeros (span (circuitOctets y) 0 12))
     holder false q =
         ap (λ (p : Part). blankPart (circuitOctets (record { holder = p; reservation = y .reservation; clock = y .clock })) 0 12) (t .holder q)
 
     reservation : (b : Bool) → y .reservation .present ≡ b → blankPart (circuitOctets y) 12 16 ≡ true
-    reservation true q = λ d. cond (eqb (flag (q d)) 1) true (zeros (part (circuitOctets y) 12 16))
+    reservation true q = λ d. cond (eqb (flag (q d)) 1) true (zeros (span (circuitOctets y) 12 16))
     reservation false q =
         ap₂ (λ (p : Part) (n : ℕ). blankPart (circuitOctets (record { holder = y .holder; reservation = p; clock = n })) 12 16) (t .reservation q) (t .clock q)
 
@@ -152,15 +152,15 @@ module _ (t : List ℕ) (i : ℕ) (y : Circuit) where
 -- ---- what is blank is tidy
 module _ (t : List ℕ) (o w : ℕ) (h : blankPart t o w ≡ true) (q : eqb (getD t o 0) 1 ≡ false) where
   absent : Agree t o [] 0 w
-  absent = zeros-agree t o w (sym (ap (λ (b : Bool). cond b true (zeros (part t o w))) q) ∙ h)
+  absent = zeros-agree t o w (sym (ap (λ (b : Bool). cond b true (zeros (span t o w))) q) ∙ h)
 
 module _ (t : List ℕ) (i : ℕ) (h : blankAt t i ≡ true) where
-  blank-parts : (blankPart t (32 * i) 12 ≡ true) × (blankPart t (32 * i + 12) 16 ≡ true) × (zeros (part t (32 * i + 28) 4) ≡ true)
+  blank-parts : (blankPart t (32 * i) 12 ≡ true) × (blankPart t (32 * i + 12) 16 ≡ true) × (zeros (span t (32 * i + 28) 4) ≡ true)
   unfolding blankAt
   blank-parts =
       let a = blankPart t (32 * i) 12 in
       let b = blankPart t (32 * i + 12) 16 in
-      let z = zeros (part t (32 * i + 28) 4) in
+      let z = zeros (span t (32 * i + 28) 4) in
       let ab = and-left (a && b) z h in
       (and-left a b ab, and-right a b ab, and-right (a && b) z h)
 
@@ -172,7 +172,7 @@ module _ (t : List ℕ) (i : ℕ) (h : blankAt t i ≡ true) where
         clock =
             λ q.
             ap value
-            (part-cong t (32 * i + 24) [] 0 4
+            (span-cong t (32 * i + 24) [] 0 4
             (λ k l.
             let z : 32 * i + 24 + k ≡ 32 * i + 12 + (12 + k) = omega arith in
             ap (λ (m : ℕ). getD t m 0) z ∙ absent t (32 * i + 12) 16 (blank-parts .1) q (12 + k) (omega arith)));
@@ -184,28 +184,28 @@ flag-same zero h = refl
 flag-same (suc zero) h = refl
 flag-same (suc (suc x)) h = absurd (omega (arith, leb-true (suc (suc x)) 1 h))
 
-party-same : (t : List ℕ) (o : ℕ) → leb (getD t o 0) 1 ≡ true → partOctets (partAt t o) ≡ part t o 12
+party-same : (t : List ℕ) (o : ℕ) → leb (getD t o 0) 1 ≡ true → partOctets (partAt t o) ≡ span t o 12
 party-same t o h = simp (add-assoc, add-zero, flag-same (getD t o 0) h)
 
 module _ (t : List ℕ) (i : ℕ) (octet : Octets t) (f : flagsAt t i ≡ true) (b : blankAt t i ≡ true) where
-  record-same : circuitOctets (circuitAt t i) ≡ part t (32 * i) 32
+  record-same : circuitOctets (circuitAt t i) ≡ span t (32 * i) 32
   unfolding flagsAt
   record-same =
       let o = 32 * i in
       let one = leb (getD t o 0) 1 in
       let two = leb (getD t (o + 12) 0) 1 in
-      let h : partOctets (partAt t o) ≡ part t o 12 = party-same t o (and-left one two f) in
-      let r : partOctets (partAt t (o + 12)) ≡ part t (o + 12) 12 = party-same t (o + 12) (and-right one two f) in
-      let c : octets 4 (number t (o + 24) 4) ≡ part t (o + 24) 4 = octets-value (part t (o + 24) 4) (octets-part t octet (o + 24) 4) in
-      let z : replicate 4 0 ≡ part t (o + 28) 4 = sym (zeros-all (part t (o + 28) 4) (blank-parts t i b .2)) in
+      let h : partOctets (partAt t o) ≡ span t o 12 = party-same t o (and-left one two f) in
+      let r : partOctets (partAt t (o + 12)) ≡ span t (o + 12) 12 = party-same t (o + 12) (and-right one two f) in
+      let c : octets 4 (number t (o + 24) 4) ≡ span t (o + 24) 4 = octets-value (span t (o + 24) 4) (octets-span t octet (o + 24) 4) in
+      let z : replicate 4 0 ≡ span t (o + 28) 4 = sym (zeros-all (span t (o + 28) 4) (blank-parts t i b .2)) in
       (λ d. h d ++ r d ++ c d ++ z d)
-      ∙ sym (part-append t o 28 4 ∙ ap (λ (l : List ℕ). l ++ part t (o + 28) 4) (part-append t o 24 4 ∙ ap (λ (l : List ℕ). l ++ part t (o + 24) 4) (part-append t o 12 12)))
+      ∙ sym (span-append t o 28 4 ∙ ap (λ (l : List ℕ). l ++ span t (o + 28) 4) (span-append t o 24 4 ∙ ap (λ (l : List ℕ). l ++ span t (o + 24) 4) (span-append t o 12 12)))
 
   stored-same : putCircuit t i (circuitAt t i) ≡ t
   unfolding putCircuit
   stored-same =
       put-same t (32 * i) (circuitOctets (circuitAt t i))
-      (λ k l. sym (part-at t (32 * i) 32 k l) ∙ ap (λ (v : List ℕ). getD v k 0) (sym record-same) ∙ ap (λ (n : ℕ). getD (circuitOctets (circuitAt t i)) n 0) (sym (zero-add k)))
+      (λ k l. sym (span-at t (32 * i) 32 k l) ∙ ap (λ (v : List ℕ). getD v k 0) (sym record-same) ∙ ap (λ (n : ℕ). getD (circuitOctets (circuitAt t i)) n 0) (sym (zero-add k)))
 
 pub lawful : Lawful records
 unfolding records codeOk
@@ -216,10 +216,10 @@ lawful =
       fit-view =
           λ t i h.
           record {
-            holder = (length-part t (32 * i + 2) 5, length-part t (32 * i + 7) 5);
-            reservation = (length-part t (32 * i + 12 + 2) 5, length-part t (32 * i + 12 + 7) 5);
+            holder = (length-span t (32 * i + 2) 5, length-span t (32 * i + 7) 5);
+            reservation = (length-span t (32 * i + 12 + 2) 5, length-span t (32 * i + 12 + 7) 5);
           };
-      fits-event = λ e. (length-part e 2 5, refl);
+      fits-event = λ e. (length-span e 2 5, refl);
       fits-nobody = refl;
       code-event = λ e. lt-ltb (getD e 11 0 % 64) 64 (omega arith);
       tidy-view = blank-tidy;

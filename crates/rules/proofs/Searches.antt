@@ -1,16 +1,17 @@
 -- What the searches find.
 use Prim.Native.Nat.{ℕ, zero, suc, _+_, _<_, _≤_}
 use mathlib.Core.Path.{_≡_, refl, sym, ap, ap₂, _∙_}
+use mathlib.Core.Logic.{_≢_}
 use mathlib.Core.Bool.{Bool, true, false, cond, true≢false}
 use native.Mathlib.Nat.{not-suc-le-zero}
 use native.Mathlib.Omega.{arith}
 use native.Mathlib.Decide.{decLt}
 use lib.Dec.{ltb}
 use borrow.Author.Tests.{ltb-true, ltb-false}
-use Rattle.octets.proofs.Parts.{grow}
+use Rattle.octets.proofs.Spans.{grow}
 use Rattle.rules.specs.declared.search.Found.{Found}
 use Rattle.rules.specs.declared.search.Found.the-variants.{At, Nothing}
-use Rattle.rules.specs.Search.{countTo, orElse, firstTo, better, bestTo}
+use Rattle.rules.specs.Search.{countTo, orElse, firstTo, better, bestTo, found}
 
 -- ---- the first: f holds there and nowhere below; or f holds nowhere
 abbrev pub FirstIs : (ℕ → Bool) → ℕ → Found → Type 0
@@ -36,6 +37,22 @@ first-none f n h = go (firstTo f n) (first-is f n)
     go : (r : Found) → FirstIs f n r → r ≡ Nothing
     go (At i) g = absurd (true≢false (sym (g .1) ∙ h i (g .0)))
     go Nothing g = refl
+
+-- what holds at the first, and where there is none, holds of what follows
+pub by-first : {A : Type 0} (P : A → Type 0) (f : ℕ → Bool) (n : ℕ) (y : ℕ → A) (z : A) → ((i : ℕ) → i < n → f i ≡ true → P (y i)) → (((j : ℕ) → j < n → f j ≡ false) → P z) → P (found (firstTo f n) y z)
+by-first P f n y z g h = go (firstTo f n) (first-is f n)
+  where
+    go : (r : Found) → FirstIs f n r → P (found r y z)
+    go (At i) k = g i (k .0) (k .1)
+    go Nothing k = h k
+
+-- z follows where there is none; and if nothing else that follows is z, there alone
+module _ {A : Type 0} (f : ℕ → Bool) (n : ℕ) (y : ℕ → A) (z : A) where
+  pub nothing-found : ((j : ℕ) → j < n → f j ≡ false) → found (firstTo f n) y z ≡ z
+  nothing-found h = ap (λ (r : Found). found r y z) (first-none f n h)
+
+  pub found-nothing : ((i : ℕ) → y i ≢ z) → found (firstTo f n) y z ≡ z → (j : ℕ) → j < n → f j ≡ false
+  found-nothing h = by-first (λ (a : A). a ≡ z → (j : ℕ) → j < n → f j ≡ false) f n y z (λ i l t e. absurd (h i e)) (λ g e. g)
 
 pub first-of : (f : ℕ → Bool) (n i : ℕ) → i < n → ((j : ℕ) → j < i → f j ≡ false) → f i ≡ true → firstTo f n ≡ At i
 first-of f n i l h t = go (firstTo f n) (first-is f n)

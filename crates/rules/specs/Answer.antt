@@ -11,37 +11,36 @@ use Rattle.rules.specs.declared.outcome.Act.the-variants.{Seize, Reserve
 use Rattle.rules.specs.declared.outcome.Outcome.{Outcome}
 use Rattle.rules.specs.declared.outcome.Outcome.the-variants.{Refuse, Do, Clock}
 use Rattle.rules.specs.Search.{countTo}
-use Rattle.rules.specs.Circuit.{nobody, isOf, old, made}
+use Rattle.rules.specs.Circuit.{nobody, isOf, overdue, made}
 use Rattle.rules.specs.Numbers.{refusalNumber}
 
--- what becomes of circuit i, which was c: a refusal changes nothing, an act changes its circuit alone,
--- and a clock event removes each reservation that is old
+-- what becomes of circuit i, which was c: a refusal changes nothing, an act its circuit alone, a clock event removes what is overdue
 abbrev pub becomes : Event → Outcome → ℕ → Circuit → Circuit
 becomes e (Refuse r) i c = c
 becomes e (Do a j) i c = cond (eqb j i) (made e a c) c
-becomes e Clock i c = cond (old (e .clock) c) (made e Cancel c) c
+becomes e Clock i c = cond (overdue (e .clock) c) (made e Cancel c) c
 
 -- octets 2-3 where nothing is named
 abbrev pub nowhere : ℕ
 nowhere = 65535
 
 -- an answer that names no loser
-abbrev pub plainly : ℕ → ℕ → Answer
-plainly k i = record { number = k; place = i; call = nobody; reservation = nobody }
+abbrev pub noLoser : ℕ → ℕ → Answer
+noLoser k i = record { number = k; place = i; call = nobody; reservation = nobody }
 
 -- number a where nobody is lost, b where a holder h or a reservation r is
-abbrev pub losing : ℕ → ℕ → ℕ → Part → Part → Answer
-losing a b i h r = record { number = cond (h .present || r .present) b a; place = i; call = h; reservation = r }
+abbrev pub losers : ℕ → ℕ → ℕ → Part → Part → Answer
+losers a b i h r = record { number = cond (h .present || r .present) b a; place = i; call = h; reservation = r }
 
 -- a reservation of another call than the one with reference r
-abbrev pub another : List ℕ → Part → Part
-another r p = cond (isOf r p) nobody p
+abbrev pub anothers : List ℕ → Part → Part
+anothers r p = cond (isOf r p) nobody p
 
 -- 1 / 2 seized, 3 / 4 reserved, 5 / 6 / 7 released / cancelled / clock taken
 unfoldable pub answerOf : (ℕ → Circuit) → ℕ → Event → Outcome → Answer
-answerOf x n e (Refuse r) = plainly (refusalNumber r) nowhere
-answerOf x n e (Do Seize i) = losing 1 2 i (x i .holder) (another (e .reference) (x i .reservation))
-answerOf x n e (Do Reserve i) = losing 3 4 i nobody (x i .reservation)
-answerOf x n e (Do Release i) = plainly 5 i
-answerOf x n e (Do Cancel i) = plainly 6 i
-answerOf x n e Clock = plainly 7 (countTo (λ i. old (e .clock) (x i)) n)
+answerOf x n e (Refuse r) = noLoser (refusalNumber r) nowhere
+answerOf x n e (Do Seize i) = losers 1 2 i (x i .holder) (anothers (e .reference) (x i .reservation))
+answerOf x n e (Do Reserve i) = losers 3 4 i nobody (x i .reservation)
+answerOf x n e (Do Release i) = noLoser 5 i
+answerOf x n e (Do Cancel i) = noLoser 6 i
+answerOf x n e Clock = noLoser 7 (countTo (λ i. overdue (e .clock) (x i)) n)

@@ -1,7 +1,8 @@
 -- 01, "Rules of choice", of one circuit: its marks and parts, and what is made of it.
 use Prim.Native.Nat.{ℕ, _+_, _*_, _-_, _%_}
 use mathlib.Core.Bool.{Bool, true, false, cond, _&&_, not}
-use mathlib.Core.List.{List, [], _∷_}
+use mathlib.Core.List.{List}
+use lib.ListN.{replicate}
 use lib.Dec.{ltb, leb, eqb}
 use Rattle.octets.specs.Same.{same}
 use Rattle.rules.specs.declared.level.Level.{Level}
@@ -13,29 +14,22 @@ use Rattle.rules.specs.declared.outcome.Act.{Act}
 use Rattle.rules.specs.declared.outcome.Act.the-variants.{Seize, Reserve, Release, Cancel}
 use Rattle.rules.specs.Fields.{routine}
 
--- 0 is the highest level
-abbrev pub higher : Level → Level → Bool
-higher a b = ltb (a .0) (b .0)
-
 abbrev pub isRoutine : Level → Bool
 isRoutine l = eqb (l .0) routine
 
--- the same domain and a strictly smaller level number
+-- the same domain and a strictly smaller level number: 0 is the highest level
 abbrev pub outranks : Mark → Mark → Bool
-outranks a b = same (a .domain) (b .domain) && higher (a .level) (b .level)
+outranks a b = same (a .domain) (b .domain) && ltb (a .level .0) (b .level .0)
 
 abbrev pub sameMark : Mark → Mark → Bool
 sameMark a b = eqb (a .level .0) (b .level .0) && same (a .domain) (b .domain)
 
--- a part whose flag is 0 is all zero
-abbrev pub five : List ℕ
-five = 0 ∷ 0 ∷ 0 ∷ 0 ∷ 0 ∷ []
-
 abbrev pub unmarked : Mark
-unmarked = record { level = record { 0 = 0 }; domain = five }
+unmarked = record { level = record { 0 = 0 }; domain = replicate 5 0 }
 
+-- a part whose flag is 0 is all zero
 abbrev pub nobody : Part
-nobody = record { present = false; mark = unmarked; reference = five }
+nobody = record { present = false; mark = unmarked; reference = replicate 5 0 }
 
 -- the part that an event's call takes on a circuit
 abbrev pub party : Event → Part
@@ -73,8 +67,8 @@ age clock stored = (clock + 4294967296 - stored) % 4294967296
 abbrev pub limit : ℕ
 limit = 3000
 
-abbrev pub old : ℕ → Circuit → Bool
-old clock c = c .reservation .present && leb limit (age clock (c .clock))
+abbrev pub overdue : ℕ → Circuit → Bool
+overdue clock c = c .reservation .present && leb limit (age clock (c .clock))
 
 -- set-up: the circuit then holds the call with no reservation
 -- look-ahead: the reservation part is written with the event's clock; a holder stays

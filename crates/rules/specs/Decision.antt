@@ -25,8 +25,8 @@ onReservation e c i =
     (unless (not (c .holder .present) || outranks (e .mark) (c .holder .mark)) HolderNotLower (Do Seize i))
 
 -- set-up, no circuit: ROUTINE, others
-abbrev pub wanting : Event → Refusal
-wanting e = cond (isRoutine (e .mark .level)) NoCircuitForRoutine NoCircuit
+abbrev pub blocked : Event → Refusal
+blocked e = cond (isRoutine (e .mark .level)) NoCircuitForRoutine NoCircuit
 
 module _ (x : ℕ → Circuit) (n : ℕ) where
   -- if its reference has a reservation, that circuit is used; otherwise the choice is made
@@ -34,7 +34,7 @@ module _ (x : ℕ → Circuit) (n : ℕ) where
   setUp e =
       found (heldBy x n (e .reference)) (λ i. Refuse AlreadyThere)
       (found (reservedBy x n (e .reference)) (λ i. onReservation e (x i) i)
-      (found (choice x n (e .mark)) (Do Seize) (Refuse (wanting e))))
+      (found (choice x n (e .mark)) (Do Seize) (Refuse (blocked e))))
 
   -- same choice, but for a call that stands nowhere, is above ROUTINE, and whose LFB is "allowed"
   unfoldable pub lookAhead : Event → Outcome

@@ -1,11 +1,11 @@
--- 01, "Numbers given back": each refusal has one number with one meaning.
+-- 01, "Numbers given back": each refusal has one number with one meaning; 20 is given before anything is read.
 use Prim.Native.Nat.{ℕ}
 use mathlib.Core.Bool.{cond}
 use lib.Dec.{eqb}
 use Rattle.rules.specs.declared.outcome.Refusal.{Refusal}
 use Rattle.rules.specs.declared.outcome.Refusal.the-variants.{Malformed, TableNotValid, NotAllowed, ByRoutine, AlreadyThere, MarkDiffers, HolderNotLower, NotThere, NoCircuitForRoutine, NoCircuit, NoCircuitToReserve}
 
--- a length is wrong: this is refused before anything is read
+-- a length is wrong
 abbrev pub lengthWrong : ℕ
 lengthWrong = 20
 

@@ -5,7 +5,7 @@ use mathlib.Core.List.{List, [], _∷_, _++_}
 use lib.ListN.{length, getD, replicate}
 use lib.Dec.{eqb, leb}
 use Rattle.octets.specs.Number.{octets}
-use Rattle.octets.specs.Part.{part, number, put, zeros}
+use Rattle.octets.specs.Span.{span, number, put, zeros}
 use Rattle.rules.specs.declared.mark.Mark.{Mark}
 use Rattle.rules.specs.declared.part.Part.{Part}
 use Rattle.rules.specs.declared.circuit.Circuit.{Circuit}
@@ -18,7 +18,7 @@ use Rattle.rules.specs.Layout.{Layout}
 -- a part at o: flag (0/1), level, domain (parameter octets 2-6), call reference
 abbrev pub partAt : List ℕ → ℕ → Part
 partAt t o =
-    record { present = eqb (getD t o 0) 1; mark = record { level = record { 0 = getD t (o + 1) 0 }; domain = part t (o + 2) 5 }; reference = part t (o + 7) 5 }
+    record { present = eqb (getD t o 0) 1; mark = record { level = record { 0 = getD t (o + 1) 0 }; domain = span t (o + 2) 5 }; reference = span t (o + 7) 5 }
 
 -- circuit, 32 octets: octets 0-11 are the holder's part, 12-27 the reservation's with the clock at 24-27
 abbrev pub circuitAt : List ℕ → ℕ → Circuit
@@ -29,7 +29,7 @@ abbrev pub flag : Bool → ℕ
 flag b = cond b 1 0
 
 abbrev pub partOctets : Part → List ℕ
-partOctets p = flag (p .present) ∷ p .mark .level .0 ∷ part (p .mark .domain) 0 5 ++ part (p .reference) 0 5
+partOctets p = flag (p .present) ∷ p .mark .level .0 ∷ span (p .mark .domain) 0 5 ++ span (p .reference) 0 5
 
 -- octets 28-31 zero
 abbrev pub circuitOctets : Circuit → List ℕ
@@ -44,27 +44,27 @@ flagsAt t i = leb (getD t (32 * i) 0) 1 && leb (getD t (32 * i + 12) 0) 1
 
 -- a part of w octets whose flag is 0 is all zero
 abbrev pub blankPart : List ℕ → ℕ → ℕ → Bool
-blankPart t o w = cond (eqb (getD t o 0) 1) true (zeros (part t o w))
+blankPart t o w = cond (eqb (getD t o 0) 1) true (zeros (span t o w))
 
 unfoldable pub blankAt : List ℕ → ℕ → Bool
-blankAt t i = blankPart t (32 * i) 12 && blankPart t (32 * i + 12) 16 && zeros (part t (32 * i + 28) 4)
+blankAt t i = blankPart t (32 * i) 12 && blankPart t (32 * i + 12) 16 && zeros (span t (32 * i + 28) 4)
 
 -- event, 1-6: precedence parameter
 abbrev pub markIn : List ℕ → Mark
-markIn e = record { level = record { 0 = levelIn (getD e 1 0) }; domain = part e 2 5 }
+markIn e = record { level = record { 0 = levelIn (getD e 1 0) }; domain = span e 2 5 }
 
 -- event, 7-11: call reference, its spare bits as 0
 abbrev pub referenceIn : List ℕ → List ℕ
-referenceIn e = part e 7 4 ++ (getD e 11 0 % 64 ∷ [])
+referenceIn e = span e 7 4 ++ (getD e 11 0 % 64 ∷ [])
 
 -- event, 16 octets: 0 kind, parameter, reference, 12-15 clock
 abbrev pub eventAt : List ℕ → Event
 eventAt e =
-    record { kind = getD e 0 0; mark = markIn e; lfb = lfbIn (getD e 1 0); plain = zeros (part e 1 6); bare = zeros (part e 7 5); reference = referenceIn e; clock = number e 12 4 }
+    record { kind = getD e 0 0; mark = markIn e; lfb = lfbIn (getD e 1 0); plain = zeros (span e 1 6); bare = zeros (span e 7 5); reference = referenceIn e; clock = number e 12 4 }
 
 -- a party that was lost (0/1), and its reference
 abbrev pub loser : Part → List ℕ
-loser p = flag (p .present) ∷ part (p .reference) 0 5
+loser p = flag (p .present) ∷ span (p .reference) 0 5
 
 -- answer, 16 octets: number, cause, 2-3 circuit or count, 4-9 holder lost, 10-15 reservation lost
 abbrev pub answerOctets : Answer → List ℕ

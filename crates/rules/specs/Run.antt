@@ -7,7 +7,7 @@ use Rattle.rules.specs.declared.outcome.Act.the-variants.{Cancel}
 use Rattle.rules.specs.declared.outcome.Refusal.the-variants.{Malformed, TableNotValid}
 use Rattle.rules.specs.declared.outcome.Outcome.{Outcome}
 use Rattle.rules.specs.declared.outcome.Outcome.the-variants.{Refuse, Do, Clock}
-use Rattle.rules.specs.Circuit.{old, made}
+use Rattle.rules.specs.Circuit.{overdue, made}
 use Rattle.rules.specs.Event.{wellFormed}
 use Rattle.rules.specs.Decision.{unless, decision}
 use Rattle.rules.specs.Answer.{answerOf}
@@ -19,10 +19,10 @@ module _ {S : Type 0} (L : Layout S) where
   unfoldable pub decide : S → Event → Outcome
   decide s e = unless (wellFormed e) Malformed (unless (valid L s) TableNotValid (decision (L .view s) (L .count s) e))
 
-  -- old reservations removed, among the first n circuits
+  -- overdue reservations removed, among the first n circuits
   abbrev pub sweepTo : S → Event → ℕ → S
   sweepTo s e zero = s
-  sweepTo s e (suc i) = cond (old (e .clock) (L .view s i)) (L .store (sweepTo s e i) i (made e Cancel (L .view s i))) (sweepTo s e i)
+  sweepTo s e (suc i) = cond (overdue (e .clock) (L .view s i)) (L .store (sweepTo s e i) i (made e Cancel (L .view s i))) (sweepTo s e i)
 
   -- the table that an outcome leaves
   unfoldable pub effect : S → Event → Outcome → S

@@ -1,4 +1,4 @@
--- 01, "Records": what a valid table is, as a search for the first fault. Its reasons stand in the order in which they are looked for.
+-- 01, "Records": what a valid table is, as a search for the first fault: record by record, in each by the reasons in order, then references.
 use Prim.Native.Nat.{ℕ, zero, suc, _*_, _/_, _%_}
 use mathlib.Core.Bool.{Bool, true, false, cond, _&&_, _||_, not}
 use mathlib.Core.List.{List}
@@ -10,9 +10,11 @@ use Rattle.rules.specs.declared.verdict.Reason.{Reason}
 use Rattle.rules.specs.declared.verdict.Reason.the-variants.{FlagOrLevel, DigitOrPointCode, NotZero, NotAbove, Repeated}
 use Rattle.rules.specs.declared.verdict.Verdict.{Verdict}
 use Rattle.rules.specs.declared.verdict.Verdict.the-variants.{Valid, Fault}
+use Rattle.rules.specs.declared.outcome.Refusal.the-variants.{TableNotValid}
 use Rattle.rules.specs.Fields.{levelOk, decimal}
 use Rattle.rules.specs.Search.{firstTo, found}
 use Rattle.rules.specs.Circuit.{outranks}
+use Rattle.rules.specs.Numbers.{refusalNumber}
 use Rattle.rules.specs.Layout.{Layout}
 
 -- what is asked of a part that is present
@@ -54,6 +56,11 @@ orFault Valid v = v
 abbrev pub isValid : Verdict → Bool
 isValid Valid = true
 isValid (Fault r i) = false
+
+-- 0 table valid, 21 table not valid
+abbrev pub verdictNumber : Verdict → ℕ
+verdictNumber Valid = 0
+verdictNumber (Fault r i) = refusalNumber TableNotValid
 
 module _ {S : Type 0} (L : Layout S) (s : S) where
   -- record i by itself

@@ -6,10 +6,10 @@ use mathlib.Core.List.{List, [], _∷_, _++_}
 use lib.ListN.{replicate}
 use Rattle.octets.specs.Number.{octets}
 use Rattle.octets.specs.Same.{same}
-use Rattle.rules.specs.Fields.{levelIn, lfbIn, routine, decimal, codeOk}
+use Rattle.rules.specs.Fields.{levelIn, lfbIn, routine, decimal, parameterOk, codeOk}
 use Rattle.rules.specs.Circuit.{takeable, worth, rank}
 use Rattle.rules.specs.Choice.{heldBy, reservedBy, choice}
-use Rattle.rules.specs.Event.{wellFormed, parameterOk}
+use Rattle.rules.specs.Event.{wellFormed}
 use Rattle.rules.specs.Decision.{onReservation, setUp, lookAhead, release, cancel, decision}
 use Rattle.rules.specs.Answer.{answerOf, nowhere}
 use Rattle.rules.specs.Valid.{levelsOk, fieldsOk, pairOk, repeated, recordVerdict, verdict, valid}
@@ -39,6 +39,9 @@ immediate = 2
 unfoldable pub priority : ℕ
 priority = 3
 
+unfoldable pub pathReserved : ℕ
+pathReserved = 1
+
 -- the nine events of 01's listing, P10's and P11's
 unfoldable pub listing : List (List ℕ)
 listing =
@@ -59,14 +62,15 @@ wrapping = looksAhead 2 immediate 4294967000 ∷ ticks 2703 ∷ ticks 2704 ∷ [
 unfoldable pub backward : List (List ℕ)
 backward = looksAhead 2 immediate 100 ∷ ticks 99 ∷ []
 
--- the answer to event k of these, the first being 0, from a table of two free circuits on
+-- the answer to event k of these, the first being 0, over the table t
 abbrev pub answerFrom : List ℕ → List (List ℕ) → ℕ → List ℕ
 answerFrom t [] k = []
 answerFrom t (e ∷ es) zero = answer records t e
 answerFrom t (e ∷ es) (suc k) = answerFrom (after records t e) es k
 
-unfoldable pub to : List (List ℕ) → ℕ → List ℕ
-to es k = answerFrom (replicate 64 0) es k
+-- the same, from two free circuits on
+unfoldable pub answerTo : List (List ℕ) → ℕ → List ℕ
+answerTo es k = answerFrom (replicate 64 0) es k
 
 -- a line of 01's output as an answer record: answer, cause, number, lost call; none of them loses a reservation
 unfoldable pub line : ℕ → ℕ → ℕ → List ℕ → List ℕ
@@ -81,21 +85,21 @@ lost identity point = 1 ∷ octets 3 identity ++ octets 2 point
 -- what the definitions give, and what 01 says
 unfoldable pub rows : List (List ℕ × List ℕ)
 rows =
-    (to listing 0, line 1 0 0 nobodyLost)
-    ∷ (to listing 1, line 3 0 1 nobodyLost)
-    ∷ (to listing 2, line 2 0 0 (lost 1 1))
-    ∷ (to listing 3, line 31 46 nowhere nobodyLost)
-    ∷ (to listing 4, line 27 0 nowhere nobodyLost)
-    ∷ (to listing 5, line 7 0 0 nobodyLost)
-    ∷ (to listing 6, line 7 0 1 nobodyLost)
-    ∷ (to listing 7, line 1 0 1 nobodyLost)
-    ∷ (to listing 8, line 30 34 nowhere nobodyLost)
-    ∷ (to wrapping 1, line 7 0 0 nobodyLost)
-    ∷ (to wrapping 2, line 7 0 1 nobodyLost)
-    ∷ (to backward 1, line 7 0 1 nobodyLost)
-    ∷ (levelIn 0x22 ∷ lfbIn 0x22 ∷ [], immediate ∷ 1 ∷ [])
-    ∷ (to (setsUp 1 0x22 ∷ []) 0, line 1 0 0 nobodyLost)
-    ∷ (to (setsUp 1 0x62 ∷ []) 0, line 22 0 nowhere nobodyLost)
+    (answerTo listing 0, line 1 0 0 nobodyLost)  -- P1
+    ∷ (answerTo listing 1, line 3 0 1 nobodyLost)  -- P2
+    ∷ (answerTo listing 2, line 2 0 0 (lost 1 1))  -- P3
+    ∷ (answerTo listing 3, line 31 46 nowhere nobodyLost)  -- P4
+    ∷ (answerTo listing 4, line 27 0 nowhere nobodyLost)  -- P5
+    ∷ (answerTo listing 5, line 7 0 0 nobodyLost)  -- P6
+    ∷ (answerTo listing 6, line 7 0 1 nobodyLost)  -- P7
+    ∷ (answerTo listing 7, line 1 0 1 nobodyLost)  -- P8
+    ∷ (answerTo listing 8, line 30 34 nowhere nobodyLost)  -- P9
+    ∷ (answerTo wrapping 1, line 7 0 0 nobodyLost)  -- P10
+    ∷ (answerTo wrapping 2, line 7 0 1 nobodyLost)  -- P10
+    ∷ (answerTo backward 1, line 7 0 1 nobodyLost)  -- P11
+    ∷ (levelIn 0x22 ∷ lfbIn 0x22 ∷ [], immediate ∷ pathReserved ∷ [])  -- P12
+    ∷ (answerTo (setsUp 1 0x22 ∷ []) 0, line 1 0 0 nobodyLost)  -- P12
+    ∷ (answerTo (setsUp 1 0x62 ∷ []) 0, line 22 0 nowhere nobodyLost)  -- P12
     ∷ []
 
 abbrev pub allSame : List (List ℕ × List ℕ) → Bool
@@ -103,5 +107,5 @@ allSame [] = true
 allSame (r ∷ rs) = same (r .0) (r .1) && allSame rs
 
 pub p1-to-p12 : allSame rows ≡ true
-unfolding immediate priority event setsUp releases looksAhead ticks listing wrapping backward to line nobodyLost lost rows answer after effect decide decision setUp lookAhead release cancel onReservation choice heldBy reservedBy rank worth takeable answerOf valid verdict recordVerdict repeated levelsOk fieldsOk pairOk decimal codeOk wellFormed parameterOk records putCircuit flagsAt blankAt
+unfolding immediate priority pathReserved event setsUp releases looksAhead ticks listing wrapping backward answerTo line nobodyLost lost rows answer after effect decide decision setUp lookAhead release cancel onReservation choice heldBy reservedBy rank worth takeable answerOf valid verdict recordVerdict repeated levelsOk fieldsOk pairOk decimal codeOk wellFormed parameterOk records putCircuit flagsAt blankAt
 p1-to-p12 = refl

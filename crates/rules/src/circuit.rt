@@ -5,7 +5,7 @@ use crate::mark::Mark;
 use crate::outcome::Act;
 use crate::part::Part;
 ghost use mathlib.Core.Path.{_≡_};
-ghost use Rattle.rules.specs.Circuit.{free, standing, takeable, rank, old, made};
+ghost use Rattle.rules.specs.Circuit.{free, standing, takeable, overdue, made};
 
 pub struct Circuit {
     pub holder: Part,
@@ -45,8 +45,8 @@ impl Circuit {
         }
     }
 
-    pub fn old(self, clock: u32) -> bool
-        ensures { λ r. ⌜ r ≡ old clock self ⌝ }
+    pub fn overdue(self, clock: u32) -> bool
+        ensures { λ r. ⌜ r ≡ overdue clock self ⌝ }
     {
         if self.reservation.present {
             Age::between(clock, self.clock).over()

@@ -2,7 +2,7 @@
 use borrow.Author.Needs.{needs}
 use native.Mathlib.Nat.{not-suc-le-zero}
 use mathlib.Core.Path.{sym}
-use Rattle.octets.proofs.Parts.{grow}
+use Rattle.octets.proofs.Spans.{grow}
 use Rattle.octets.proofs.Sames.{same-differ, same-last}
 use Rattle.octets.proofs.same_five.Statement.{statement}
 use Rattle.octets.proofs.same_five.Tie as tie

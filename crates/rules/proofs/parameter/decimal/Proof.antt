@@ -2,8 +2,8 @@
 use Rattle.octets.proofs.Tests.{both}
 use Rattle.rules.specs.Fields.{decimal}
 use borrow.Author.Needs.{needs}
-use Rattle.rules.proofs.event.decimal.Statement.{statement}
-use Rattle.rules.proofs.event.decimal.Tie as tie
+use Rattle.rules.proofs.parameter.decimal.Statement.{statement}
+use Rattle.rules.proofs.parameter.decimal.Tie as tie
 
 returns : tie.Need-returns
 unfolding decimal

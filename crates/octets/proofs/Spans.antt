@@ -12,7 +12,7 @@ use lib.Seq.{getD-set-same, getD-set-other, getD-at, ext-getD, set-getD}
 use lib.Dec.{eqb}
 use borrow.Author.Tests.{eqb-true}
 use Rattle.octets.specs.Number.{value, Octets}
-use Rattle.octets.specs.Part.{part, number, putTo, put, zeros}
+use Rattle.octets.specs.Span.{span, number, putTo, put, zeros}
 use Rattle.octets.proofs.Tests.{and-left, and-right}
 use Rattle.octets.proofs.Width.{octet-at}
 
@@ -21,39 +21,39 @@ pub grow : (P : ℕ → Type 0) (n : ℕ) → ((j : ℕ) → j < n → P j) → 
 grow P n below here j l = ⊎-elim (λ e. subst P (sym e) here) (λ m. below j m) (eq-or-lt-of-le (le-of-suc-le-suc l))
 
 -- ---- a part
-pub length-part : (t : List ℕ) (o w : ℕ) → length (part t o w) ≡ w
-length-part t o zero = refl
-length-part t o (suc w) = length-append (part t o w) (getD t (o + w) 0 ∷ []) ∙ ap (λ (n : ℕ). n + 1) (length-part t o w) ∙ add-one w
+pub length-span : (t : List ℕ) (o w : ℕ) → length (span t o w) ≡ w
+length-span t o zero = refl
+length-span t o (suc w) = length-append (span t o w) (getD t (o + w) 0 ∷ []) ∙ ap (λ (n : ℕ). n + 1) (length-span t o w) ∙ add-one w
 
-pub part-at : (t : List ℕ) (o w i : ℕ) → i < w → getD (part t o w) i 0 ≡ getD t (o + i) 0
-part-at t o zero i h = absurd (not-suc-le-zero h)
-part-at t o (suc w) i h =
-    grow (λ (j : ℕ). getD (part t o (suc w)) j 0 ≡ getD t (o + j) 0) w
-    (λ j l. List·getD-append (part t o w) (getD t (o + w) 0 ∷ []) 0 j (omega (arith, length-part t o w)) ∙ part-at t o w j l)
-    (getD-at (part t o w) (getD t (o + w) 0) [] 0 w (length-part t o w)) i h
+pub span-at : (t : List ℕ) (o w i : ℕ) → i < w → getD (span t o w) i 0 ≡ getD t (o + i) 0
+span-at t o zero i h = absurd (not-suc-le-zero h)
+span-at t o (suc w) i h =
+    grow (λ (j : ℕ). getD (span t o (suc w)) j 0 ≡ getD t (o + j) 0) w
+    (λ j l. List·getD-append (span t o w) (getD t (o + w) 0 ∷ []) 0 j (omega (arith, length-span t o w)) ∙ span-at t o w j l)
+    (getD-at (span t o w) (getD t (o + w) 0) [] 0 w (length-span t o w)) i h
 
 -- a list of w octets is its own part
-pub part-all : (l : List ℕ) (w : ℕ) → length l ≡ w → part l 0 w ≡ l
-part-all l w e =
-    ext-getD 0 (part l 0 w) l (length-part l 0 w ∙ sym e)
-    (λ i h. part-at l 0 w i (omega (arith, length-part l 0 w)) ∙ ap (λ (n : ℕ). getD l n 0) (zero-add i))
+pub span-all : (l : List ℕ) (w : ℕ) → length l ≡ w → span l 0 w ≡ l
+span-all l w e =
+    ext-getD 0 (span l 0 w) l (length-span l 0 w ∙ sym e)
+    (λ i h. span-at l 0 w i (omega (arith, length-span l 0 w)) ∙ ap (λ (n : ℕ). getD l n 0) (zero-add i))
 
 -- two parts, one behind the other, are one
-pub part-append : (t : List ℕ) (o a b : ℕ) → part t o (a + b) ≡ part t o a ++ part t (o + a) b
-part-append t o a zero = ap (part t o) (add-zero a) ∙ sym (append-nil (part t o a))
-part-append t o a (suc b) =
-    ap (part t o) (add-suc a b)
-    ∙ ap₂ (λ (l : List ℕ) (n : ℕ). l ++ (getD t n 0 ∷ [])) (part-append t o a b) (sym (add-assoc o a b))
-    ∙ append-assoc (part t o a) (part t (o + a) b) (getD t (o + a + b) 0 ∷ [])
+pub span-append : (t : List ℕ) (o a b : ℕ) → span t o (a + b) ≡ span t o a ++ span t (o + a) b
+span-append t o a zero = ap (span t o) (add-zero a) ∙ sym (append-nil (span t o a))
+span-append t o a (suc b) =
+    ap (span t o) (add-suc a b)
+    ∙ ap₂ (λ (l : List ℕ) (n : ℕ). l ++ (getD t n 0 ∷ [])) (span-append t o a b) (sym (add-assoc o a b))
+    ∙ append-assoc (span t o a) (span t (o + a) b) (getD t (o + a + b) 0 ∷ [])
 
 -- a part of octets is octets
 octets-append : (l m : List ℕ) → Octets l → Octets m → Octets (l ++ m)
 octets-append [] m h k = k
 octets-append (b ∷ bs) m h k = (h .0, octets-append bs m (h .1) k)
 
-pub octets-part : (t : List ℕ) → Octets t → (o w : ℕ) → Octets (part t o w)
-octets-part t h o zero = tt
-octets-part t h o (suc w) = octets-append (part t o w) (getD t (o + w) 0 ∷ []) (octets-part t h o w) (octet-at t h (o + w), tt)
+pub octets-span : (t : List ℕ) → Octets t → (o w : ℕ) → Octets (span t o w)
+octets-span t h o zero = tt
+octets-span t h o (suc w) = octets-append (span t o w) (getD t (o + w) 0 ∷ []) (octets-span t h o w) (octet-at t h (o + w), tt)
 
 -- ---- two rows of octets agree on w octets, from o in the one and from p in the other
 module _ (s : List ℕ) (o : ℕ) (t : List ℕ) (p : ℕ) where
@@ -61,10 +61,10 @@ module _ (s : List ℕ) (o : ℕ) (t : List ℕ) (p : ℕ) where
   Agree w = (k : ℕ) → k < w → getD s (o + k) 0 ≡ getD t (p + k) 0
 
   -- where they agree, their parts are the same
-  pub part-cong : (w : ℕ) → Agree w → part s o w ≡ part t p w
-  part-cong zero h = refl
-  part-cong (suc w) h =
-      ap₂ (λ (a : List ℕ) (b : ℕ). a ++ (b ∷ [])) (part-cong w (λ k l. h k (omega arith))) (h w (omega arith))
+  pub span-cong : (w : ℕ) → Agree w → span s o w ≡ span t p w
+  span-cong zero h = refl
+  span-cong (suc w) h =
+      ap₂ (λ (a : List ℕ) (b : ℕ). a ++ (b ∷ [])) (span-cong w (λ k l. h k (omega arith))) (h w (omega arith))
 
   pub agree-at : (w a : ℕ) → Agree w → a < w → getD s (o + a) 0 ≡ getD t (p + a) 0
   agree-at w a h l = h a l
@@ -141,8 +141,8 @@ zeros-all (b ∷ bs) h =
     ap₂ (λ (x : ℕ) (l : List ℕ). x ∷ l) (eqb-true b 0 (and-left (eqb b 0) (zeros bs) h)) (zeros-all bs (and-right (eqb b 0) (zeros bs) h))
 
 -- a zero part agrees with the empty row, which is 0 everywhere
-pub zeros-agree : (t : List ℕ) (o w : ℕ) → zeros (part t o w) ≡ true → Agree t o [] 0 w
-zeros-agree t o w h k l = sym (part-at t o w k l) ∙ zeros-at (part t o w) h k
+pub zeros-agree : (t : List ℕ) (o w : ℕ) → zeros (span t o w) ≡ true → Agree t o [] 0 w
+zeros-agree t o w h k l = sym (span-at t o w k l) ∙ zeros-at (span t o w) h k
 
 replicated : (m i : ℕ) → getD {A = ℕ} (replicate m 0) i 0 ≡ 0
 replicated zero i = refl
