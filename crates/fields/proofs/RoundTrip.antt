@@ -12,12 +12,12 @@ use Rattle.octets.specs.Span.{span}
 use Rattle.octets.proofs.Tests.{and-left, and-right, and-both}
 use Rattle.octets.proofs.Width.{value-octets, octets-value, value-lt, valueHigh-octetsHigh, octetsHigh-valueHigh, octet-at}
 use Rattle.octets.proofs.Spans.{span-all, octets-span}
-use Rattle.rules.specs.Fields.{levelIn, lfbIn, levelOk, lfbOk, digitsOk}
+use Rattle.rules.specs.Fields.{levelIn, lfbIn, levelOk, lfbOk, digitsOk, decimal, parameterOk}
 use Rattle.fields.specs.declared.precedence.Precedence.{Precedence}
 use Rattle.fields.specs.declared.reference.Reference.{Reference}
 use Rattle.fields.specs.declared.precedence.Reading as precedence-reading
 use Rattle.fields.specs.declared.reference.Reading as reference-reading
-use Rattle.fields.specs.Field.{field}
+use Rattle.fields.specs.Given.{given}
 use Rattle.fields.specs.Precedence as precedence
 use Rattle.fields.specs.Reference as reference
 use Rattle.fields.specs.RoundTrip.{PrecedenceReadBack, ReferenceReadBack, PrecedenceWrittenBack, ReferenceWrittenBack}
@@ -26,11 +26,11 @@ use Rattle.fields.proofs.Within.{Precise, precise, Exact, exact}
 -- ---- of any field of w octets
 module _ (w : ℕ) (l : List ℕ) (good : Bool) {A : Type 0} (x y z : A) where
   -- of the right length with good values, it is the field itself
-  taken : length l ≡ w → good ≡ true → field w l good x y z ≡ x
+  taken : length l ≡ w → good ≡ true → given w l good x y z ≡ x
   taken h g = λ i. cond (eq-eqb (length l) w h i) (cond (g i) x y) z
 
 -- where it is neither of the two refusals, it is of the right length with good values
-accepted : (w : ℕ) (l : List ℕ) (good : Bool) {A : Type 0} (f : A → ℕ) (x y z : A) → (f y ≡ 0 → ⊥) → (f z ≡ 0 → ⊥) → f (field w l good x y z) ≡ 0 → (length l ≡ w) × (good ≡ true)
+accepted : (w : ℕ) (l : List ℕ) (good : Bool) {A : Type 0} (f : A → ℕ) (x y z : A) → (f y ≡ 0 → ⊥) → (f z ≡ 0 → ⊥) → f (given w l good x y z) ≡ 0 → (length l ≡ w) × (good ≡ true)
 accepted w l good f x y z ny nz h = go (eqb (length l) w) good refl h
   where
     go : (a b : Bool) → eqb (length l) w ≡ a → f (cond a (cond b x y) z) ≡ 0 → (length l ≡ w) × (b ≡ true)
@@ -100,15 +100,15 @@ precedence-values v n k =
       level = level i;
       lfb = lfb i;
       digits = ((λ j. high0 j ∷ low0 j ∷ high1 j ∷ low1 j ∷ []) ∙ digits) i;
-      domain = valueHigh-octetsHigh 2 (v .domain) i;
+      service = valueHigh-octetsHigh 2 (v .service) i;
     }
 
 -- two digits in one octet
 digits-back : (a b : ℕ) → a ≤ 9 → b ≤ 9 → digitsOk (16 * a + b) ≡ true
 digits-back a b p q = and-both _ _ (le-leb ((16 * a + b) / 16) 9 (omega arith)) (le-leb ((16 * a + b) % 16) 9 (omega arith))
 
-precedence-readable : (v : Precedence) → Precise v → let s = precedence.octetsOf v in precedence.readable (getD s 0 0) (getD s 1 0) (getD s 2 0) ≡ true
-unfolding precedence.readable precedence.octetsOf
+precedence-readable : (v : Precedence) → Precise v → precedence.readable (precedence.octetsOf v) ≡ true
+unfolding parameterOk decimal precedence.octetsOf
 precedence-readable v k =
     and-both _ _ (le-leb ((32 * v .lfb + v .level) % 16) 4 (omega (arith, k .level, k .lfb)))
     (and-both _ _ (le-leb ((32 * v .lfb + v .level) / 32 % 4) 2 (omega (arith, k .level, k .lfb)))
@@ -125,7 +125,7 @@ precedence-read-back b v n h =
     let s = precedence.octetsOf v in
     let p = precise v (k .1) in
     ap precedence.readPrecedence (taken 6 b (precedence.writable v) s b b (k .0) (k .1))
-    ∙ taken 6 s (precedence.readable (getD s 0 0) (getD s 1 0) (getD s 2 0)) _ _ _ (six v) (precedence-readable v p)
+    ∙ taken 6 s (precedence.readable s) _ _ _ (six v) (precedence-readable v p)
     ∙ (λ i. record { number = 0; value = precedence-values v n p i })
 
 and-assoc : (a b c : Bool) → (a && b) && c ≡ true → a && (b && c) ≡ true
@@ -139,12 +139,12 @@ module _ (s : List ℕ) (o : Octets s) where
       let six : span s 0 6 ≡ s = span-all s 6 n in
       let b : 16 * (getD s 1 0 / 16) + getD s 1 0 % 16 ≡ getD s 1 0 = omega arith in
       let c : 16 * (getD s 2 0 / 16) + getD s 2 0 % 16 ≡ getD s 2 0 = omega arith in
-      let domain = octetsHigh-valueHigh (span s 3 3) (octet-at s o 5, (octet-at s o 4, (octet-at s o 3, tt))) in
+      let service = octetsHigh-valueHigh (span s 3 3) (octet-at s o 5, (octet-at s o 4, (octet-at s o 3, tt))) in
       let first = precedence.firstOctet (lfbIn (getD s 0 0)) (levelIn (getD s 0 0)) in
-      (λ i. first ∷ b i ∷ c i ∷ domain i) ∙ ap (λ (l : List ℕ). set l 0 first) six
+      (λ i. first ∷ b i ∷ c i ∷ service i) ∙ ap (λ (l : List ℕ). set l 0 first) six
 
-  precedence-writable : precedence.readable (getD s 0 0) (getD s 1 0) (getD s 2 0) ≡ true → precedence.writable (precedence.valuesOf s) ≡ true
-  unfolding precedence.valuesOf precedence.writable precedence.readable precedence.digitsFit
+  precedence-writable : precedence.readable s ≡ true → precedence.writable (precedence.valuesOf s) ≡ true
+  unfolding precedence.valuesOf precedence.writable parameterOk decimal precedence.digitsFit
   precedence-writable h =
       let l = levelOk (levelIn (getD s 0 0)) in
       let f = lfbOk (lfbIn (getD s 0 0)) in
@@ -153,13 +153,13 @@ module _ (s : List ℕ) (o : Octets s) where
       let fbc = and-right l (f && (b && c)) h in
       let bc = and-right f (b && c) fbc in
       let digits = and-assoc (leb (getD s 1 0 / 16) 9) (leb (getD s 1 0 % 16) 9) c bc in
-      let domain = lt-ltb (valueHigh (span s 3 3)) 16777216 (value-lt (getD s 5 0 ∷ getD s 4 0 ∷ getD s 3 0 ∷ []) (octet-at s o 5, (octet-at s o 4, (octet-at s o 3, tt)))) in
-      and-both l _ (and-left l (f && (b && c)) h) (and-both f _ (and-left f (b && c) fbc) (and-both _ _ digits domain))
+      let service = lt-ltb (valueHigh (span s 3 3)) 16777216 (value-lt (getD s 5 0 ∷ getD s 4 0 ∷ getD s 3 0 ∷ []) (octet-at s o 5, (octet-at s o 4, (octet-at s o 3, tt)))) in
+      and-both l _ (and-left l (f && (b && c)) h) (and-both f _ (and-left f (b && c) fbc) (and-both _ _ digits service))
 
 pub precedence-written-back : PrecedenceWrittenBack
 unfolding precedence.readPrecedence precedence.writeBuffer precedence.writeNumber
 precedence-written-back b s n o h =
-    let ok = precedence.readable (getD s 0 0) (getD s 1 0) (getD s 2 0) in
+    let ok = precedence.readable s in
     let v = precedence.valuesOf s in
     let got : precedence-reading.Reading = record { number = 0; value = v } in
     let k = accepted 6 s ok (λ r. r .number) got (precedence.refused 22) (precedence.refused 20) (λ e. omega arith) (λ e. omega arith) h in

@@ -20,7 +20,7 @@ pub record Precise (v : Precedence) : Type 0 where
   pub second : getD (v .digits) 1 0 ≤ 9
   pub third : getD (v .digits) 2 0 ≤ 9
   pub fourth : getD (v .digits) 3 0 ≤ 9
-  pub domain : v .domain < 16777216
+  pub service : v .service < 16777216
 
 pub precise : (v : Precedence) → precedence.writable v ≡ true → Precise v
 unfolding precedence.writable precedence.digitsFit
@@ -38,7 +38,7 @@ precise v h =
       second = leb-true _ _ (e .0);
       third = leb-true _ _ (f .0);
       fourth = leb-true _ _ (f .1);
-      domain = ltb-true _ _ (c .1);
+      service = ltb-true _ _ (c .1);
     }
 
 pub record Exact (v : Reference) : Type 0 where

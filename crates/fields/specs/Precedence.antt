@@ -7,11 +7,11 @@ use lib.Dec.{leb, ltb}
 use Rattle.octets.specs.Number.{valueHigh, octetsHigh}
 use Rattle.octets.specs.Span.{span}
 use Rattle.rules.specs.declared.outcome.Refusal.the-variants.{Malformed}
-use Rattle.rules.specs.Fields.{levelIn, lfbIn, levelOk, lfbOk, digitsOk}
+use Rattle.rules.specs.Fields.{levelIn, lfbIn, levelOk, lfbOk, parameterOk}
 use Rattle.rules.specs.Numbers.{lengthWrong, refusalNumber}
 use Rattle.fields.specs.declared.precedence.Precedence.{Precedence}
 use Rattle.fields.specs.declared.precedence.Reading.{Reading}
-use Rattle.fields.specs.Field.{field}
+use Rattle.fields.specs.Given.{given}
 
 -- octet 1: LFB indicator in bits 7-6, level in bits 4-1
 abbrev pub firstOctet : ℕ → ℕ → ℕ
@@ -32,20 +32,20 @@ valuesOf s =
       level = levelIn (getD s 0 0);
       lfb = lfbIn (getD s 0 0);
       digits = digitsOf (getD s 1 0) (getD s 2 0);
-      domain = valueHigh (span s 3 3);
+      service = valueHigh (span s 3 3);
     }
 
--- octets 1 to 3 have a level 0 to 4, an LFB indicator other than 11, and digits 0 to 9
-unfoldable pub readable : ℕ → ℕ → ℕ → Bool
-readable a b c = levelOk (levelIn a) && (lfbOk (lfbIn a) && (digitsOk b && digitsOk c))
+-- levels 5 to 15, LFB 11 and digits above 9 are refused
+abbrev pub readable : List ℕ → Bool
+readable s = parameterOk (levelIn (getD s 0 0)) (lfbIn (getD s 0 0)) (span s 1 5)
 
 -- zero values
 abbrev pub refused : ℕ → Reading
-refused k = record { number = k; value = record { level = 0; lfb = 0; digits = 0 ∷ 0 ∷ 0 ∷ 0 ∷ []; domain = 0 } }
+refused k = record { number = k; value = record { level = 0; lfb = 0; digits = 0 ∷ 0 ∷ 0 ∷ 0 ∷ []; service = 0 } }
 
 unfoldable pub readPrecedence : List ℕ → Reading
 readPrecedence s =
-    field 6 s (readable (getD s 0 0) (getD s 1 0) (getD s 2 0)) (record { number = 0; value = valuesOf s }) (refused (refusalNumber Malformed)) (refused lengthWrong)
+    given 6 s (readable s) (record { number = 0; value = valuesOf s }) (refused (refusalNumber Malformed)) (refused lengthWrong)
 
 -- the values in six octets
 unfoldable pub octetsOf : Precedence → List ℕ
@@ -53,18 +53,18 @@ octetsOf v =
     firstOctet (v .lfb) (v .level)
     ∷ (16 * getD (v .digits) 0 0 + getD (v .digits) 1 0)
     ∷ (16 * getD (v .digits) 2 0 + getD (v .digits) 3 0)
-    ∷ octetsHigh 3 (v .domain)
+    ∷ octetsHigh 3 (v .service)
 
 -- each digit 0 to 9
 unfoldable pub digitsFit : List ℕ → Bool
 digitsFit d = leb (getD d 0 0) 9 && (leb (getD d 1 0) 9 && (leb (getD d 2 0) 9 && leb (getD d 3 0) 9))
 
--- no level, digit or domain too large, and no LFB above 2
+-- no level, digit or service domain too large, and no LFB above 2
 unfoldable pub writable : Precedence → Bool
-writable v = levelOk (v .level) && (lfbOk (v .lfb) && (digitsFit (v .digits) && ltb (v .domain) 16777216))
+writable v = levelOk (v .level) && (lfbOk (v .lfb) && (digitsFit (v .digits) && ltb (v .service) 16777216))
 
 unfoldable pub writeNumber : List ℕ → Precedence → ℕ
-writeNumber b v = field 6 b (writable v) 0 (refusalNumber Malformed) lengthWrong
+writeNumber b v = given 6 b (writable v) 0 (refusalNumber Malformed) lengthWrong
 
 unfoldable pub writeBuffer : List ℕ → Precedence → List ℕ
-writeBuffer b v = field 6 b (writable v) (octetsOf v) b b
+writeBuffer b v = given 6 b (writable v) (octetsOf v) b b

@@ -1,16 +1,16 @@
 // The precedence parameter: six octets.
 use rules::level::Level;
+use rules::parameter;
 ghost use mathlib.Core.Path.{_≡_};
-ghost use Prim.Native.Nat.{_+_};
 ghost use lib.ListN.{length};
 ghost use Rattle.fields.specs.Precedence.{refused, readable, readPrecedence, digitsFit, writable, writeNumber, writeBuffer};
 
-// digits: the network identity. domain: the service domain, 24 bits.
+// digits: the network identity. service: the service domain, 24 bits.
 pub struct Precedence {
     pub level: u8,
     pub lfb: u8,
     pub digits: [u8; 4],
-    pub domain: u32,
+    pub service: u32,
 }
 
 // number: 0, 20 or 22. At 20 and 22 all values are zero.
@@ -29,25 +29,18 @@ fn refuse(number: u8) -> Reading
             level: 0,
             lfb: 0,
             digits,
-            domain: 0,
+            service: 0,
         },
     }
 }
 
-// Whether octets 1 to 3 hold values that are not refused.
-fn readable(a: u8, b: u8, c: u8) -> bool
-    ensures { λ r. ⌜ r ≡ readable a b c ⌝ }
+fn readable(octets: &[u8]) -> bool
+    requires { ⌜ length (now octets) ≡ 6 ⌝ }
+    ensures { λ r. ⌜ r ≡ readable (now (octets .entry)) ⌝ }
 {
-    if !Level::in_parameter(a).known() {
-        return false;
-    }
-    if 2 < a / 32 % 4 {
-        return false;
-    }
-    if !rules::event::digits_ok(b) {
-        return false;
-    }
-    rules::event::digits_ok(c)
+    let level = Level::in_parameter(octets[0]);
+    let lfb = parameter::lfb_in(octets[0]);
+    parameter::well_formed(level, lfb, octets::read_five(octets, 1))
 }
 
 pub fn read(octets: &[u8]) -> Reading
@@ -56,20 +49,19 @@ pub fn read(octets: &[u8]) -> Reading
     if octets.len() != 6 {
         return refuse(20);
     }
-    let a = octets[0];
-    let b = octets[1];
-    let c = octets[2];
-    if !readable(a, b, c) {
+    if !readable(octets) {
         return refuse(22);
     }
+    let b = octets[1];
+    let c = octets[2];
     let digits = [b / 16, b % 16, c / 16, c % 16];
     Reading {
         number: 0,
         value: Precedence {
-            level: a % 16,
-            lfb: a / 32 % 4,
+            level: Level::in_parameter(octets[0]).0,
+            lfb: parameter::lfb_in(octets[0]),
             digits,
-            domain: octets::join_three(octets[5], octets[4], octets[3]),
+            service: octets::join_three(octets[5], octets[4], octets[3]),
         },
     }
 }
@@ -93,16 +85,16 @@ fn writable(value: Precedence) -> bool
     ensures { λ r. ⌜ r ≡ writable value ⌝ }
 {
     let digits = value.digits;
-    if !Level(value.level).known() {
+    if !Level::in_record(value.level).known() {
         return false;
     }
-    if 2 < value.lfb {
+    if !parameter::lfb_known(value.lfb) {
         return false;
     }
     if !digits_fit(digits) {
         return false;
     }
-    value.domain < 16777216
+    value.service < 16777216
 }
 
 // 0, or 20 for a buffer of another length, or 22 for a value that is too large; the buffer is written at 0 alone.
@@ -111,7 +103,7 @@ pub fn write(buffer: &mut [u8], value: Precedence) -> u8
     ensures { λ _. ⌜ now (buffer .exit) ≡ writeBuffer (now (buffer .entry)) value ⌝ }
 {
     let digits = value.digits;
-    let domain = value.domain;
+    let service = value.service;
     if buffer.len() != 6 {
         return 20;
     }
@@ -121,8 +113,8 @@ pub fn write(buffer: &mut [u8], value: Precedence) -> u8
     buffer[0] = 32 * value.lfb + value.level;
     buffer[1] = 16 * digits[0] + digits[1];
     buffer[2] = 16 * digits[2] + digits[3];
-    buffer[3] = (domain / 256 / 256) as u8;
-    buffer[4] = (domain / 256 % 256) as u8;
-    buffer[5] = (domain % 256) as u8;
+    buffer[3] = (service / 256 / 256) as u8;
+    buffer[4] = (service / 256 % 256) as u8;
+    buffer[5] = (service % 256) as u8;
     0
 }

@@ -4,10 +4,10 @@ use fields::precedence::Precedence;
 
 fn values(v: Precedence) {
     let digits = v.digits;
-    text::number(v.level as u64);
     text::number(v.lfb as u64);
-    text::number(v.domain as u64);
+    text::number(v.level as u64);
     text::digits(digits);
+    text::last(v.service as u64);
 }
 
 fn read(octets: &[u8]) {
@@ -19,7 +19,9 @@ fn read(octets: &[u8]) {
 
 pub fn reads() {
     text::put(b"precedence parameter, read\n");
-    text::put(b"octets                     number     level      LFB        domain     digits\n");
+    text::put(
+        b"octets                     number     LFB        level      digits           service domain\n",
+    );
     examples();
     levels();
     indicators_and_spare_bits();
@@ -104,14 +106,14 @@ fn write_into(buffer: &mut [u8], v: Precedence) {
 }
 
 // Into a buffer of this length, which holds ee in every octet.
-fn write(level: u8, lfb: u8, digits: [u8; 4], domain: u32, length: usize) {
+fn write(level: u8, lfb: u8, digits: [u8; 4], service: u32, length: usize) {
     let mut buffer = [0xeeu8; 8];
     if length <= 8 {
         let v = Precedence {
             level,
             lfb,
             digits,
-            domain,
+            service,
         };
         write_into(&mut buffer[..length], v);
     }
@@ -119,7 +121,9 @@ fn write(level: u8, lfb: u8, digits: [u8; 4], domain: u32, length: usize) {
 
 pub fn writes() {
     text::put(b"precedence parameter, written\n");
-    text::put(b"buffer                     number     level      LFB        domain     digits\n");
+    text::put(
+        b"buffer                     number     LFB        level      digits           service domain\n",
+    );
     written_levels();
     written_digits();
     written_domains();

@@ -29,7 +29,7 @@ pub fn last(n: u64) {
     put(b"\n");
 }
 
-// Four numbers, apart by dots, that end their line.
+// Four numbers, apart by dots, the last in a column of eleven.
 pub fn digits(d: [u8; 4]) {
     io::print_decimal(STDOUT_FILENO, wide(d[0]));
     put(b".");
@@ -37,7 +37,7 @@ pub fn digits(d: [u8; 4]) {
     put(b".");
     io::print_decimal(STDOUT_FILENO, wide(d[2]));
     put(b".");
-    last(wide(d[3]));
+    number(wide(d[3]));
 }
 
 // At most nine octets, in a column of twenty-seven.

@@ -1,6 +1,6 @@
 -- The length, what is readable, then the values in the octets.
 use mathlib.Core.Bool.{true}
-use lib.ListN.{length, getD}
+use lib.ListN.{length}
 use borrow.Author.Needs.{needs}
 use borrow.Author.Tests.{not-false}
 use Rattle.octets.proofs.Tests.{ways, if-eq, if-true}
@@ -20,10 +20,10 @@ whole : tie.Need-returns-3
 unfolding readPrecedence valuesOf
 whole c =
     let five = c .before .before .before .before .before in
-    let nine = five .before .before .before .before in
-    let s = nine .before .before .args .octets .now in
-    if-eq _ _ (length s) 6 (nine .if1 .left)
-    (if-true _ _ (readable (getD s 0 0) (getD s 1 0) (getD s 2 0)) (five .readable .ensures) (not-false _ (c .before .before .before .before .if2 .left)) (cc))
+    let ten = five .before .before .before .before .before in
+    let s = ten .before .before .before .before .args .octets .now in
+    if-eq _ _ (length s) 6 (ten .before .before .if1 .left)
+    (if-true _ _ (readable s) (ten .before .readable .ensures) (not-false _ (ten .if2 .left)) (cc))
 
 pub read-spec : {M : Type 1} → statement M
 read-spec =
@@ -31,12 +31,15 @@ read-spec =
     (tie.spec
     (λ c κs. search needs)
     short
-    (λ c. search needs)
-    (λ c. search needs)
-    (λ c. search needs)
     (λ c κs. search needs)
     (λ c κs. search needs)
     malformed
+    (λ c. search needs)
+    (λ c. search needs)
+    (λ c. search needs)
+    (λ c κs. search needs)
+    (λ c. search needs)
+    (λ c κs. search needs)
     (λ c. search needs)
     (λ c. search needs)
     (λ c. search needs)
