@@ -8,3 +8,4 @@ pub mod Unique
 pub mod Right
 pub mod Effect
 pub mod Kept
+pub mod Cases
