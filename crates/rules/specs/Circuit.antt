@@ -14,37 +14,34 @@ use Rattle.rules.specs.declared.outcome.Act.{Act}
 use Rattle.rules.specs.declared.outcome.Act.the-variants.{Seize, Reserve, Release, Cancel}
 use Rattle.rules.specs.Fields.{routine}
 
-abbrev pub isRoutine : Level → Bool
+abbrev pub isRoutine : Level → Bool  -- ROUTINE
 isRoutine l = eqb (l .0) routine
 
 -- the same domain and a strictly smaller level number: 0 is the highest level
 abbrev pub outranks : Mark → Mark → Bool
 outranks a b = same (a .domain) (b .domain) && ltb (a .level .0) (b .level .0)
 
-abbrev pub sameMark : Mark → Mark → Bool
+abbrev pub sameMark : Mark → Mark → Bool  -- the same level and domain
 sameMark a b = eqb (a .level .0) (b .level .0) && same (a .domain) (b .domain)
 
-abbrev pub unmarked : Mark
+abbrev pub unmarked : Mark  -- the mark of nobody
 unmarked = record { level = record { 0 = 0 }; domain = replicate 5 0 }
 
--- a part whose flag is 0 is all zero
-abbrev pub nobody : Part
+abbrev pub nobody : Part  -- a part whose flag is 0 is all zero
 nobody = record { present = false; mark = unmarked; reference = replicate 5 0 }
 
 -- the part that an event's call takes on a circuit
 abbrev pub party : Event → Part
 party e = record { present = true; mark = e .mark; reference = e .reference }
 
--- the call with reference r stands in this part
-abbrev pub isOf : List ℕ → Part → Bool
+abbrev pub isOf : List ℕ → Part → Bool  -- the call with reference r stands in this part
 isOf r p = p .present && same (p .reference) r
 
 -- the standing mark is the reservation's level and domain if there is one, else the holder's
 abbrev pub standing : Circuit → Mark
 standing c = cond (c .reservation .present) (c .reservation .mark) (c .holder .mark)
 
--- a circuit is free if it has neither part
-abbrev pub free : Circuit → Bool
+abbrev pub free : Circuit → Bool  -- a circuit is free if it has neither part
 free c = not (c .holder .present) && not (c .reservation .present)
 
 -- it is takeable by a call if the standing mark has the same domain and a strictly greater level number
@@ -63,11 +60,10 @@ rank m c = cond (takeable m c) (worth c) 0
 abbrev pub age : ℕ → ℕ → ℕ
 age clock stored = (clock + 4294967296 - stored) % 4294967296
 
--- a reservation goes when that is 3,000 or more
-abbrev pub limit : ℕ
+abbrev pub limit : ℕ  -- a reservation goes when that is 3,000 or more
 limit = 3000
 
-abbrev pub overdue : ℕ → Circuit → Bool
+abbrev pub overdue : ℕ → Circuit → Bool  -- its age is the limit or more
 overdue clock c = c .reservation .present && leb limit (age clock (c .clock))
 
 -- set-up: the circuit then holds the call with no reservation

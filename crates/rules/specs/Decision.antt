@@ -14,8 +14,7 @@ use Rattle.rules.specs.Search.{found}
 use Rattle.rules.specs.Circuit.{isRoutine, outranks, sameMark}
 use Rattle.rules.specs.Choice.{heldBy, reservedBy, choice}
 
--- go on if b holds, else refuse
-abbrev pub unless : Bool → Refusal → Outcome → Outcome
+abbrev pub unless : Bool → Refusal → Outcome → Outcome  -- go on if b holds, else refuse
 unless b r o = cond b o (Refuse r)
 
 -- a set-up uses its own reservation, on circuit i, whichever LFB value it carries
@@ -24,8 +23,7 @@ onReservation e c i =
     unless (sameMark (e .mark) (c .reservation .mark)) MarkDiffers
     (unless (not (c .holder .present) || outranks (e .mark) (c .holder .mark)) HolderNotLower (Do Seize i))
 
--- set-up, no circuit: ROUTINE, others
-abbrev pub blocked : Event → Refusal
+abbrev pub blocked : Event → Refusal  -- set-up, no circuit: ROUTINE, others
 blocked e = cond (isRoutine (e .mark .level)) NoCircuitForRoutine NoCircuit
 
 module _ (x : ℕ → Circuit) (n : ℕ) where
@@ -49,7 +47,7 @@ module _ (x : ℕ → Circuit) (n : ℕ) where
   unfoldable pub release : Event → Outcome
   release e = found (heldBy x n (e .reference)) (Do Release) (Refuse NotThere)
 
-  unfoldable pub cancel : Event → Outcome
+  unfoldable pub cancel : Event → Outcome  -- cancel the reservation part
   cancel e = found (reservedBy x n (e .reference)) (Do Cancel) (Refuse NotThere)
 
   -- 1 set-up, 2 release, 3 look-ahead, 4 cancel, 5 clock

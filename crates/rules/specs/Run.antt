@@ -24,8 +24,7 @@ module _ {S : Type 0} (L : Layout S) where
   sweepTo s e zero = s
   sweepTo s e (suc i) = cond (overdue (e .clock) (L .view s i)) (L .store (sweepTo s e i) i (made e Cancel (L .view s i))) (sweepTo s e i)
 
-  -- the table that an outcome leaves
-  unfoldable pub effect : S → Event → Outcome → S
+  unfoldable pub effect : S → Event → Outcome → S  -- the table that an outcome leaves
   effect s e (Refuse r) = s
   effect s e (Do a i) = L .store s i (made e a (L .view s i))
   effect s e Clock = sweepTo s e (L .count s)
@@ -34,19 +33,17 @@ module _ {S : Type 0} (L : Layout S) where
   unfoldable pub after : S → List ℕ → S
   after s e = effect s (L .event e) (decide s (L .event e))
 
-  unfoldable pub answer : S → List ℕ → List ℕ
+  unfoldable pub answer : S → List ℕ → List ℕ  -- the octets of its answer
   answer s e = L .answer (answerOf (L .view s) (L .count s) (L .event e) (decide s (L .event e)))
 
-  -- a list equals its events applied one by one
-  abbrev pub run : S → List (List ℕ) → S
+  abbrev pub run : S → List (List ℕ) → S  -- a list equals its events applied one by one
   run s [] = s
   run s (e ∷ es) = run (after s e) es
 
-  abbrev pub answers : S → List (List ℕ) → List (List ℕ)
+  abbrev pub answers : S → List (List ℕ) → List (List ℕ)  -- the answer to each of them
   answers s [] = []
   answers s (e ∷ es) = answer s e ∷ answers (after s e) es
 
-  -- lists one after another
-  abbrev pub runs : S → List (List (List ℕ)) → S
+  abbrev pub runs : S → List (List (List ℕ)) → S  -- lists one after another
   runs s [] = s
   runs s (l ∷ ls) = runs (run s l) ls
