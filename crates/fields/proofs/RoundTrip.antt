@@ -9,7 +9,7 @@ use lib.Dec.{eqb, leb, ltb}
 use borrow.Author.Tests.{eqb-true, eq-eqb, le-leb, lt-ltb, leb-true}
 use Rattle.octets.specs.Number.{value, octets, valueHigh, octetsHigh, Octets}
 use Rattle.octets.specs.Span.{span}
-use Rattle.octets.proofs.Tests.{and-left, and-right, and-both}
+use Rattle.octets.proofs.Tests.{and-left, and-right, and-both, and-assoc}
 use Rattle.octets.proofs.Width.{value-octets, octets-value, value-lt, valueHigh-octetsHigh, octetsHigh-valueHigh, octet-at}
 use Rattle.octets.proofs.Spans.{span-all, octets-span}
 use Rattle.rules.specs.Fields.{levelIn, lfbIn, levelOk, lfbOk, digitsOk, decimal, parameterOk}
@@ -128,10 +128,6 @@ precedence-read-back b v n h =
     ∙ taken 6 s (precedence.readable s) _ _ _ (six v) (precedence-readable v p)
     ∙ (λ i. record { number = 0; value = precedence-values v n p i })
 
-and-assoc : (a b c : Bool) → (a && b) && c ≡ true → a && (b && c) ≡ true
-and-assoc true b c h = h
-and-assoc false b c h = h
-
 module _ (s : List ℕ) (o : Octets s) where
   precedence-octets : length s ≡ 6 → precedence.octetsOf (precedence.valuesOf s) ≡ precedence.spareless s
   unfolding precedence.valuesOf precedence.octetsOf
@@ -152,7 +148,7 @@ module _ (s : List ℕ) (o : Octets s) where
       let c = digitsOk (getD s 2 0) in
       let fbc = and-right l (f && (b && c)) h in
       let bc = and-right f (b && c) fbc in
-      let digits = and-assoc (leb (getD s 1 0 / 16) 9) (leb (getD s 1 0 % 16) 9) c bc in
+      let digits = sym (and-assoc (leb (getD s 1 0 / 16) 9) (leb (getD s 1 0 % 16) 9) c) ∙ bc in
       let service = lt-ltb (valueHigh (span s 3 3)) 16777216 (value-lt (getD s 5 0 ∷ getD s 4 0 ∷ getD s 3 0 ∷ []) (octet-at s o 5, (octet-at s o 4, (octet-at s o 3, tt)))) in
       and-both l _ (and-left l (f && (b && c)) h) (and-both f _ (and-left f (b && c) fbc) (and-both _ _ digits service))
 

@@ -1,5 +1,5 @@
 -- Laws of parts: what is read back, what stays, and where nothing changes, at any place and width.
-use Prim.Native.Nat.{ℕ, zero, suc, _+_, _<_, _≤_}
+use Prim.Native.Nat.{ℕ, zero, suc, _+_, _*_, _<_, _≤_}
 use mathlib.Core.Path.{_≡_, refl, sym, ap, ap₂, _∙_, subst}
 use mathlib.Core.Logic.{⊎-elim, _⊎_, inl, inr}
 use mathlib.Core.Bool.{Bool, true, false, _&&_}
@@ -10,10 +10,10 @@ use native.Mathlib.Omega.{arith}
 use lib.ListN.{length, getD, set, replicate, length-set, length-append, List·getD-append}
 use lib.Seq.{getD-set-same, getD-set-other, getD-at, ext-getD, set-getD}
 use lib.Dec.{eqb}
-use borrow.Author.Tests.{eqb-true}
+use borrow.Author.Tests.{eqb-true, eq-eqb, ne-eqb}
 use Rattle.octets.specs.Number.{value, Octets}
 use Rattle.octets.specs.Span.{span, number, putTo, put, zeros}
-use Rattle.octets.proofs.Tests.{and-left, and-right}
+use Rattle.octets.proofs.Tests.{and-left, and-right, and-assoc, by-eq}
 use Rattle.octets.proofs.Width.{octet-at}
 
 -- what holds below n and at n holds below suc n
@@ -151,3 +151,22 @@ replicated (suc m) (suc i) = replicated m i
 
 pub empty-agree : (m o w : ℕ) → Agree (replicate m 0) o [] 0 w
 empty-agree m o w k l = replicated m (o + k)
+
+-- octets are zero where their number is
+pub zeros-value : (l : List ℕ) → eqb (value l) 0 ≡ zeros l
+zeros-value [] = refl
+zeros-value (b ∷ bs) = sum b (value bs) ∙ ap (λ (t : Bool). eqb b 0 && t) (zeros-value bs)
+  where
+    sum : (x y : ℕ) → eqb (x + 256 * y) 0 ≡ eqb x 0 && eqb y 0
+    sum x y =
+        by-eq x 0
+        (λ p. by-eq y 0 (λ q. eq-eqb (x + 256 * y) 0 (omega arith) ∙ (λ i. sym (eq-eqb x 0 p) i && sym (eq-eqb y 0 q) i)) (λ q. ne-eqb (x + 256 * y) 0 (λ z. q (omega arith)) ∙ (λ i. sym (eq-eqb x 0 p) i && sym (ne-eqb y 0 q) i)))
+        (λ p. ne-eqb (x + 256 * y) 0 (λ z. p (omega arith)) ∙ (λ i. sym (ne-eqb x 0 p) i && eqb y 0))
+
+zeros-append : (l m : List ℕ) → zeros (l ++ m) ≡ zeros l && zeros m
+zeros-append [] m = refl
+zeros-append (b ∷ bs) m = ap (λ (t : Bool). eqb b 0 && t) (zeros-append bs m) ∙ sym (and-assoc (eqb b 0) (zeros bs) (zeros m))
+
+-- two spans, one behind the other, are zero where both are
+pub zeros-span : (t : List ℕ) (o a b : ℕ) → zeros (span t o (a + b)) ≡ zeros (span t o a) && zeros (span t (o + a) b)
+zeros-span t o a b = ap zeros (span-append t o a b) ∙ zeros-append (span t o a) (span t (o + a) b)

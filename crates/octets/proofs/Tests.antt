@@ -72,6 +72,10 @@ and-right false b h = absurd (true≢false (sym h))
 pub and-both : (a b : Bool) → a ≡ true → b ≡ true → a && b ≡ true
 and-both a b p q = ap₂ (λ (x y : Bool). x && y) p q
 
+pub and-assoc : (a b c : Bool) → (a && b) && c ≡ a && (b && c)
+and-assoc true b c = refl
+and-assoc false b c = refl
+
 -- two numbers are equal or not
 pub by-eq : (a b : ℕ) {A : Type 0} → (a ≡ b → A) → (a ≢ b → A) → A
 by-eq a b {A} f g = go (ℕ-discrete a b)

@@ -12,8 +12,9 @@ use Rattle.rules.specs.declared.circuit.Circuit.{Circuit}
 use Rattle.rules.specs.declared.event.Event.{Event}
 use Rattle.rules.specs.declared.answer.Answer.{Answer}
 use Rattle.rules.specs.Fields.{levelIn, lfbIn, codeOk}
-use Rattle.rules.specs.Numbers.{causeOf}
+use Rattle.rules.specs.Numbers.{lengthWrong, causeOf}
 use Rattle.rules.specs.Layout.{Layout}
+use Rattle.rules.specs.Valid.{verdictNumber, verdict}
 
 -- a part at o: flag (0/1), level, domain (parameter octets 2-6), call reference
 abbrev pub partAt : List ℕ → ℕ → Part
@@ -76,3 +77,7 @@ tableLength n = eqb (n % 32) 0 && (leb 1 (n / 32) && leb (n / 32) 256)
 -- a list has 0 to 4,096 events and exactly one answer place for each
 unfoldable pub listLength : ℕ → ℕ → Bool
 listLength events answers = eqb (events % 16) 0 && (leb (events / 16) 4096 && eqb answers events)
+
+-- the table check gives 0, 20 or 21
+unfoldable pub checkNumber : List ℕ → ℕ
+checkNumber t = cond (tableLength (length t)) (verdictNumber (verdict records t)) lengthWrong

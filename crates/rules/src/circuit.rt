@@ -5,12 +5,19 @@ use crate::mark::Mark;
 use crate::outcome::Act;
 use crate::part::Part;
 ghost use mathlib.Core.Path.{_≡_};
-ghost use Rattle.rules.specs.Circuit.{free, standing, takeable, overdue, made};
+ghost use Prim.Native.Nat.{_<_};
+ghost use Rattle.rules.specs.Circuit.{free, standing, takeable, worth, rank, overdue, made};
 
 pub struct Circuit {
     pub holder: Part,
     pub reservation: Part,
     pub clock: u32,
+}
+
+fn wide(level: u8) -> u16
+    ensures { λ r. ⌜ (r ≡ level) × (r < 256) ⌝ }
+{
+    level as u16
 }
 
 impl Circuit {
@@ -43,6 +50,25 @@ impl Circuit {
         } else {
             by.outranks(self.standing())
         }
+    }
+
+    // How gladly a call takes the circuit, if it is takeable: by the level number, then one with no holder.
+    fn worth(self) -> u16
+        ensures { λ r. ⌜ r ≡ worth self ⌝ }
+    {
+        let level = wide(self.standing().level.0);
+        if self.holder.present {
+            1 + 2 * level
+        } else {
+            2 + 2 * level
+        }
+    }
+
+    // 0 for a circuit that is not takeable.
+    pub fn rank(self, by: Mark) -> u16
+        ensures { λ r. ⌜ r ≡ rank by self ⌝ }
+    {
+        if self.takeable(by) { self.worth() } else { 0 }
     }
 
     pub fn overdue(self, clock: u32) -> bool

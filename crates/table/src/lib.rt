@@ -1,0 +1,185 @@
+// Circuits in the octets of a table: read whole, stored whole. No other code knows where a circuit's fields stand.
+use rules::circuit::Circuit;
+use rules::level::Level;
+use rules::mark::Mark;
+use rules::part::Part;
+ghost use mathlib.Core.Path.{_≡_};
+ghost use Prim.Native.Nat.{_+_, _*_, _/_, _<_, _≤_};
+ghost use lib.ListN.{length};
+ghost use Rattle.octets.specs.Span.{span, zeros};
+ghost use Rattle.rules.specs.Records.{partAt, circuitAt, flag, circuitOctets, putCircuit, flagsAt, blankPart, blankAt};
+
+// How many circuits there are.
+pub fn count(t: &[u8]) -> usize
+    ensures { λ r. ⌜ r ≡ length (now (t .entry)) / 32 ⌝ }
+{
+    t.len() / 32
+}
+
+// The part that stands from place o on.
+pub fn part_at(t: &[u8], o: usize) -> Part
+    requires { ⌜ o + 12 ≤ length (now t) ⌝ }
+    ensures { λ r. ⌜ r ≡ partAt (now (t .entry)) o ⌝ }
+{
+    let present = t[o] == 1;
+    let level = Level(t[o + 1]);
+    let domain = octets::read_five(t, o + 2);
+    let reference = octets::read_five(t, o + 7);
+    let mark = Mark { level, domain };
+    Part {
+        present,
+        mark,
+        reference,
+    }
+}
+
+// What stands at circuit i.
+pub fn circuit_at(t: &[u8], i: usize) -> Circuit
+    requires { ⌜ i < length (now t) / 32 ⌝ }
+    ensures { λ r. ⌜ r ≡ circuitAt (now (t .entry)) i ⌝ }
+{
+    let o = 32 * i;
+    let holder = part_at(t, o);
+    let reservation = part_at(t, o + 12);
+    let clock = octets::read_four(t, o + 24);
+    Circuit {
+        holder,
+        reservation,
+        clock,
+    }
+}
+
+fn flag(b: bool) -> u8
+    ensures { λ r. ⌜ r ≡ flag b ⌝ }
+{
+    if b { 1 } else { 0 }
+}
+
+// A circuit as its record.
+fn record(c: Circuit) -> [u8; 32]
+    ensures { λ r. ⌜ r ≡ circuitOctets c ⌝ }
+{
+    let h = c.holder;
+    let r = c.reservation;
+    let d = h.mark.domain;
+    let e = r.mark.domain;
+    let p = h.reference;
+    let q = r.reference;
+    let s = octets::split_four(c.clock);
+    let a = flag(h.present);
+    let b = flag(r.present);
+    [
+        a,
+        h.mark.level.0,
+        d[0],
+        d[1],
+        d[2],
+        d[3],
+        d[4],
+        p[0],
+        p[1],
+        p[2],
+        p[3],
+        p[4],
+        b,
+        r.mark.level.0,
+        e[0],
+        e[1],
+        e[2],
+        e[3],
+        e[4],
+        q[0],
+        q[1],
+        q[2],
+        q[3],
+        q[4],
+        s[0],
+        s[1],
+        s[2],
+        s[3],
+        0,
+        0,
+        0,
+        0,
+    ]
+}
+
+// Circuit i, written whole.
+pub fn store(t: &mut [u8], i: usize, c: Circuit)
+    requires { ⌜ i < length (now t) / 32 ⌝ }
+    ensures { λ _. ⌜ now (t .exit) ≡ putCircuit (now (t .entry)) i c ⌝ }
+{
+    let v = record(c);
+    octets::write(t, 32 * i, &v);
+}
+
+// Each flag of record i is 0 or 1.
+pub fn flags(t: &[u8], i: usize) -> bool
+    requires { ⌜ i < length (now t) / 32 ⌝ }
+    ensures { λ r. ⌜ r ≡ flagsAt (now (t .entry)) i ⌝ }
+{
+    let o = 32 * i;
+    if t[o] <= 1 { t[o + 12] <= 1 } else { false }
+}
+
+// Four octets are zero: as one number, since that is one test.
+fn zero_four(t: &[u8], o: usize) -> bool
+    requires { ⌜ o + 4 ≤ length (now t) ⌝ }
+    ensures { λ r. ⌜ r ≡ zeros (span (now (t .entry)) o 4) ⌝ }
+{
+    octets::read_four(t, o) == 0
+}
+
+fn zero_twelve(t: &[u8], o: usize) -> bool
+    requires { ⌜ o + 12 ≤ length (now t) ⌝ }
+    ensures { λ r. ⌜ r ≡ zeros (span (now (t .entry)) o 12) ⌝ }
+{
+    if !zero_four(t, o) {
+        return false;
+    }
+    if !zero_four(t, o + 4) {
+        return false;
+    }
+    zero_four(t, o + 8)
+}
+
+fn zero_sixteen(t: &[u8], o: usize) -> bool
+    requires { ⌜ o + 16 ≤ length (now t) ⌝ }
+    ensures { λ r. ⌜ r ≡ zeros (span (now (t .entry)) o 16) ⌝ }
+{
+    if !zero_twelve(t, o) {
+        return false;
+    }
+    zero_four(t, o + 12)
+}
+
+// The holder's part of a record is present or zero.
+fn holder_blank(t: &[u8], o: usize) -> bool
+    requires { ⌜ o + 12 ≤ length (now t) ⌝ }
+    ensures { λ r. ⌜ r ≡ blankPart (now (t .entry)) o 12 ⌝ }
+{
+    if t[o] == 1 { true } else { zero_twelve(t, o) }
+}
+
+// The reservation's, with its clock, is.
+fn reservation_blank(t: &[u8], o: usize) -> bool
+    requires { ⌜ o + 16 ≤ length (now t) ⌝ }
+    ensures { λ r. ⌜ r ≡ blankPart (now (t .entry)) o 16 ⌝ }
+{
+    if t[o] == 1 { true } else { zero_sixteen(t, o) }
+}
+
+// What must be zero in record i is zero.
+pub fn blank(t: &[u8], i: usize) -> bool
+    requires { ⌜ i < length (now t) / 32 ⌝ }
+    ensures { λ r. ⌜ r ≡ blankAt (now (t .entry)) i ⌝ }
+{
+    let o = 32 * i;
+    if !holder_blank(t, o) {
+        return false;
+    }
+    if !reservation_blank(t, o + 12) {
+        return false;
+    }
+    zero_four(t, o + 28)
+}
