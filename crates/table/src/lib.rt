@@ -7,6 +7,7 @@ ghost use mathlib.Core.Path.{_≡_};
 ghost use Prim.Native.Nat.{_+_, _*_, _/_, _<_, _≤_};
 ghost use lib.ListN.{length};
 ghost use Rattle.octets.specs.Span.{span, zeros};
+ghost use Rattle.rules.specs.Valid.{partNo};
 ghost use Rattle.rules.specs.Records.{partAt, circuitAt, flag, circuitOctets, putCircuit, flagsAt, blankPart, blankAt};
 
 // How many circuits there are.
@@ -31,6 +32,14 @@ pub fn part_at(t: &[u8], o: usize) -> Part
         mark,
         reference,
     }
+}
+
+// Part k: 2 i is the holder's of circuit i, and 2 i + 1 its reservation's.
+pub fn part_no(t: &[u8], k: usize) -> Part
+    requires { ⌜ k < 2 * (length (now t) / 32) ⌝ }
+    ensures { λ r. ⌜ r ≡ partNo (circuitAt (now (t .entry))) k ⌝ }
+{
+    part_at(t, 32 * (k / 2) + 12 * (k % 2))
 }
 
 // What stands at circuit i.
