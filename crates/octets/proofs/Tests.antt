@@ -1,7 +1,7 @@
 -- From what a test of the code said to what a `cond` or a `&&` of a definition is. Every other crate cites these.
 use mathlib.Core.Path.{_≡_, refl, sym, ap, ap₂, _∙_}
 use mathlib.Core.Logic.{_≢_}
-use mathlib.Core.Bool.{Bool, true, false, cond, _&&_, not, true≢false}
+use mathlib.Core.Bool.{Bool, true, false, cond, _&&_, _||_, not, true≢false}
 use Prim.Native.Nat.{ℕ, _≤_, _<_}
 use native.Mathlib.Decide.{ℕ-discrete}
 use lib.Dec.{eqb, leb, ltb}
@@ -34,11 +34,17 @@ module _ {A : Type 0} (x y : A) {z : A} where
   pub if-ge : (a b : ℕ) → b ≤ a → z ≡ y → z ≡ cond (ltb a b) x y
   if-ge a b h = if-false (ltb a b) (sym (le-ltb a b h)) refl
 
+  pub if-not : (t : Bool) {r : Bool} → r ≡ t → r ≡ false → z ≡ x → z ≡ cond (not t) x y
+  if-not t e h g = g ∙ sym (ap (λ (b : Bool). cond (not b) x y) (sym e ∙ h))
+
+  pub if-so : (t : Bool) {r : Bool} → r ≡ t → r ≡ true → z ≡ y → z ≡ cond (not t) x y
+  if-so t e h g = g ∙ sym (ap (λ (b : Bool). cond (not b) x y) (sym e ∙ h))
+
 -- a number that is k is no other: at literals the test computes
 pub other : (n k m : ℕ) → n ≡ k → eqb k m ≡ false → n ≡ m → ⊥
 other n k m e t f = eqb-false k m t (sym e ∙ f)
 
--- the same of `a && b`, and of `not a && b`
+-- the same of `a && b`, of `not a && b`, and of `not a || b`
 module _ (a b : Bool) {z r : Bool} where
   pub and-on : r ≡ a → r ≡ true → z ≡ b → z ≡ a && b
   and-on e h g = g ∙ sym (ap (λ (t : Bool). t && b) (sym e ∙ h))
@@ -52,11 +58,17 @@ module _ (a b : Bool) {z r : Bool} where
   pub not-off : r ≡ a → r ≡ false → z ≡ b → z ≡ not a && b
   not-off e h g = g ∙ sym (ap (λ (t : Bool). not t && b) (sym e ∙ h))
 
+  pub so-then : r ≡ a → r ≡ true → z ≡ b → z ≡ not a || b
+  so-then e h g = g ∙ sym (ap (λ (t : Bool). not t || b) (sym e ∙ h))
+
+  pub not-then : r ≡ a → r ≡ false → z ≡ true → z ≡ not a || b
+  not-then e h g = g ∙ sym (ap (λ (t : Bool). not t || b) (sym e ∙ h))
+
 -- closes a return where the definition is a nest of `cond` in the order of the code's tests
-pub ruleset ways = (needs, if-true, if-false, if-eq, if-ne, if-le, if-gt, if-lt, if-ge, not-true, not-false, other)
+pub ruleset ways = (needs, if-true, if-false, if-eq, if-ne, if-le, if-gt, if-lt, if-ge, if-not, if-so, not-true, not-false, other)
 
 -- the same for a definition with `&&`
-pub ruleset both = (needs, and-on, and-off, not-on, not-off, eq-eqb, ne-eqb, le-leb, lt-leb, lt-ltb, le-ltb, not-true, not-false)
+pub ruleset both = (needs, and-on, and-off, not-on, not-off, so-then, not-then, eq-eqb, ne-eqb, le-leb, lt-leb, lt-ltb, le-ltb, not-true, not-false)
 
 -- the same by rewriting
 pub ruleset tests = (needs, eq-eqb, ne-eqb, le-leb, lt-leb, lt-ltb, le-ltb)

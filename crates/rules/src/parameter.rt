@@ -32,7 +32,7 @@ fn digits_known(octet: u8) -> bool
 }
 
 // The four network identity digits of a domain.
-fn decimal(domain: [u8; 5]) -> bool
+pub fn decimal(domain: [u8; 5]) -> bool
     ensures { λ r. ⌜ r ≡ decimal domain ⌝ }
 {
     if digits_known(domain[0]) {

@@ -8,7 +8,21 @@ ghost use Prim.Native.Nat.{_+_, _*_, _/_, _<_, _≤_};
 ghost use lib.ListN.{length};
 ghost use Rattle.octets.specs.Span.{span, zeros};
 ghost use Rattle.rules.specs.Valid.{partNo};
-ghost use Rattle.rules.specs.Records.{partAt, circuitAt, flag, circuitOctets, putCircuit, flagsAt, blankPart, blankAt};
+ghost use Rattle.rules.specs.Records.{partAt, circuitAt, flag, circuitOctets, putCircuit, flagsAt, blankPart, blankAt, tableLength};
+
+// A table is 1 to 256 records of 32 octets.
+pub fn right_length(n: usize) -> bool
+    ensures { λ r. ⌜ r ≡ tableLength n ⌝ }
+{
+    let circuits = n / 32;
+    if n % 32 != 0 {
+        return false;
+    }
+    if circuits < 1 {
+        return false;
+    }
+    circuits <= 256
+}
 
 // How many circuits there are.
 pub fn count(t: &[u8]) -> usize

@@ -27,10 +27,11 @@ there c =
     (first-of (repeated (circuitAt t)) (2 * (length t / 32)) (four .loop .j) (omega arith) (four .loop .inv .1) (sym (c .before .note .ensures .0) ∙ c .if1 .taken))
 
 again : tie.Need-loop-again Inv-loop μ-loop
-again c =
-    (omega arith,
-    below-more _ _ (c .before .before .before .before .loop .inv .1) (sym (c .before .note .ensures .0) ∙ c .if1 .left),
-    c .before .note .ensures .1)
+again c = (
+  omega arith,
+  below-more _ _ (c .before .before .before .before .loop .inv .1) (sym (c .before .note .ensures .0) ∙ c .if1 .left),
+  c .before .note .ensures .1,
+)
 
 nowhere : tie.Need-returns-2 Inv-loop μ-loop
 nowhere c =

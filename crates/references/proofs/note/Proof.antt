@@ -25,9 +25,10 @@ absent c =
     let three = c .before .before .before in
     let a = three .before .before .args in
     let x = circuitAt (now (a .t)) in
-    let off : partNo x (a .j) .present ≡ false = ap (λ (p : Part). p .present) (sym (three .part-no .ensures)) ∙ not-true _ (c .if1 .taken) in
-    (sym (new-absent x (a .j) off),
-    seen-more x (a .j) (now (a .w)) (now (a .w)) (three .before .before .pre .1) refl (λ k h. h) (λ p. absurd (true≢false (sym p ∙ off))))
+    let off : partNo x (a .j) .present ≡ false = ap (λ (p : Part). p .present) (sym (three .part-no .ensures)) ∙ not-true _ (c .if1 .taken) in (
+      sym (new-absent x (a .j) off),
+      seen-more x (a .j) (now (a .w)) (now (a .w)) (three .before .before .pre .1) refl (λ k h. h) (λ p. absurd (true≢false (sym p ∙ off))),
+    )
 
 searched : tie.Need-returns-2
 unfolding one two
@@ -39,14 +40,15 @@ searched c =
     let w = now (a .w) in
     let s = eqb (bit w (k .key .result % 6143)) 1 in
     let u = eqb (bit w (k .key .result / 6143 % 6144)) 1 in
-    let set : s && u ≡ true = sym (c .before .before .both-set .ensures) ∙ c .before .if2 .taken in
-    (c .stands-before .ensures,
-    seen-more x (a .j) w w (start .pre .1) refl (λ k h. h)
-    (λ p.
-      record {
-        first = ap (λ (n : ℕ). bit w (n % 6143)) (sym (valued k)) ∙ eqb-true _ _ (and-left s u set);
-        second = ap (λ (n : ℕ). bit w (n / 6143 % 6144)) (sym (valued k)) ∙ eqb-true _ _ (and-right s u set)
-      }))
+    let set : s && u ≡ true = sym (c .before .before .both-set .ensures) ∙ c .before .if2 .taken in (
+      c .stands-before .ensures,
+      seen-more x (a .j) w w (start .pre .1) refl (λ k h. h)
+          (λ p.
+          record {
+            first = ap (λ (n : ℕ). bit w (n % 6143)) (sym (valued k)) ∙ eqb-true _ _ (and-left s u set);
+            second = ap (λ (n : ℕ). bit w (n / 6143 % 6144)) (sym (valued k)) ∙ eqb-true _ _ (and-right s u set);
+          }),
+    )
 
 noted : tie.Need-returns-3
 unfolding one two
@@ -59,16 +61,17 @@ noted c =
     let w = now (a .w) in
     let unset = sym (c .before .before .before .before .before .both-set .ensures) ∙ c .before .before .before .before .if2 .left in
     let b1 = c .before .before .set-bit in
-    let b2 = c .set-bit2 in
-    (sym
-    (new-unset x (a .j) w m
-    (λ b. true≢false (sym (and-both _ _ (eq-eqb _ _ (ap (λ (n : ℕ). bit w (n % 6143)) (valued k) ∙ b .first)) (eq-eqb _ _ (ap (λ (n : ℕ). bit w (n / 6143 % 6144)) (valued k) ∙ b .second))) ∙ unset))),
-    seen-more x (a .j) w (b2 .last .0) m (b2 .ensures .long ∙ b1 .ensures .long) (λ k h. b2 .ensures .kept k (b1 .ensures .kept k h))
-    (λ p.
-      record {
-        first = ap (λ (n : ℕ). bit (b2 .last .0) (n % 6143)) (sym (valued k)) ∙ b2 .ensures .kept _ (b1 .ensures .here);
-        second = ap (λ (n : ℕ). bit (b2 .last .0) (n / 6143 % 6144)) (sym (valued k)) ∙ b2 .ensures .here
-      }))
+    let b2 = c .set-bit2 in (
+      sym
+          (new-unset x (a .j) w m
+          (λ b. true≢false (sym (and-both _ _ (eq-eqb _ _ (ap (λ (n : ℕ). bit w (n % 6143)) (valued k) ∙ b .first)) (eq-eqb _ _ (ap (λ (n : ℕ). bit w (n / 6143 % 6144)) (valued k) ∙ b .second))) ∙ unset))),
+      seen-more x (a .j) w (b2 .last .0) m (b2 .ensures .long ∙ b1 .ensures .long) (λ k h. b2 .ensures .kept k (b1 .ensures .kept k h))
+          (λ p.
+          record {
+            first = ap (λ (n : ℕ). bit (b2 .last .0) (n % 6143)) (sym (valued k)) ∙ b2 .ensures .kept _ (b1 .ensures .here);
+            second = ap (λ (n : ℕ). bit (b2 .last .0) (n / 6143 % 6144)) (sym (valued k)) ∙ b2 .ensures .here;
+          }),
+    )
 
 pub note-spec : {M : Type 1} → statement M
 note-spec =

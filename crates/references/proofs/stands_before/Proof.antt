@@ -31,10 +31,11 @@ there c =
 
 again : tie.Need-loop-again Inv-loop μ-loop
 again c =
-    let four = c .before .before .before .before in
-    (omega arith,
-    below-more _ _ (four .loop .inv .1)
-    (ap₂ clash (sym (c .before .before .part-no2 .ensures)) (sym (four .before .part-no .ensures)) ∙ sym (c .before .clashes .ensures) ∙ c .if1 .left))
+    let four = c .before .before .before .before in (
+      omega arith,
+      below-more _ _ (four .loop .inv .1)
+          (ap₂ clash (sym (c .before .before .part-no2 .ensures)) (sym (four .before .part-no .ensures)) ∙ sym (c .before .clashes .ensures) ∙ c .if1 .left),
+    )
 
 nowhere : tie.Need-returns-2 Inv-loop μ-loop
 nowhere c =

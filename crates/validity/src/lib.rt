@@ -1,0 +1,172 @@
+// The check of a table: its first fault, and the number of it.
+use rules::circuit::Circuit;
+use rules::part::Part;
+use rules::search::Found;
+use rules::verdict::Reason;
+use rules::verdict::Verdict;
+ghost use mathlib.Core.Path.{_≡_};
+ghost use mathlib.Core.Bool.{_&&_};
+ghost use Prim.Native.Nat.{_/_, _<_};
+ghost use lib.ListN.{length};
+ghost use Rattle.rules.specs.Fields.{levelOk, decimal, codeOk};
+ghost use Rattle.rules.specs.Valid.{ifPresent, levelsOk, fieldsOk, pairOk, isValid, verdictNumber, recordVerdict, recordsTo, partsTo};
+ghost use Rattle.rules.specs.Valid as rule;
+ghost use Rattle.rules.specs.Records.{circuitAt, flagsAt, records, checkNumber};
+
+fn level_ok(p: Part) -> bool
+    ensures { λ r. ⌜ r ≡ ifPresent p (levelOk (p .mark .level .0)) ⌝ }
+{
+    if p.present {
+        p.mark.level.known()
+    } else {
+        true
+    }
+}
+
+fn levels_ok(c: Circuit) -> bool
+    ensures { λ r. ⌜ r ≡ levelsOk c ⌝ }
+{
+    if level_ok(c.holder) {
+        level_ok(c.reservation)
+    } else {
+        false
+    }
+}
+
+// The two top bits of a reference's last octet are spare.
+fn code_ok(reference: [u8; 5]) -> bool
+    ensures { λ r. ⌜ r ≡ codeOk reference ⌝ }
+{
+    reference[4] < 64
+}
+
+fn part_ok(p: Part) -> bool
+    ensures { λ r. ⌜ r ≡ ifPresent p (decimal (p .mark .domain) && codeOk (p .reference)) ⌝ }
+{
+    let domain = p.mark.domain;
+    let reference = p.reference;
+    if !p.present {
+        return true;
+    }
+    if !rules::parameter::decimal(domain) {
+        return false;
+    }
+    code_ok(reference)
+}
+
+fn fields_ok(c: Circuit) -> bool
+    ensures { λ r. ⌜ r ≡ fieldsOk codeOk c ⌝ }
+{
+    if part_ok(c.holder) {
+        part_ok(c.reservation)
+    } else {
+        false
+    }
+}
+
+// A reservation outranks the holder that it stands above.
+fn pair_ok(c: Circuit) -> bool
+    ensures { λ r. ⌜ r ≡ pairOk c ⌝ }
+{
+    if !c.holder.present {
+        return true;
+    }
+    if !c.reservation.present {
+        return true;
+    }
+    c.reservation.mark.outranks(c.holder.mark)
+}
+
+fn flags_and_levels(t: &[u8], i: usize, c: Circuit) -> bool
+    requires { ⌜ i < length (now t) / 32 ⌝ }
+    ensures { λ r. ⌜ r ≡ flagsAt (now (t .entry)) i && levelsOk c ⌝ }
+{
+    if table::flags(t, i) {
+        levels_ok(c)
+    } else {
+        false
+    }
+}
+
+// Record i by itself: the first reason that applies.
+fn record(t: &[u8], i: usize) -> Verdict
+    requires { ⌜ i < length (now t) / 32 ⌝ }
+    ensures { λ r. ⌜ r ≡ recordVerdict records (now (t .entry)) i ⌝ }
+{
+    let c = table::circuit_at(t, i);
+    if !flags_and_levels(t, i, c) {
+        return Verdict::Fault(Reason::FlagOrLevel, i);
+    }
+    if !fields_ok(c) {
+        return Verdict::Fault(Reason::DigitOrPointCode, i);
+    }
+    if !table::blank(t, i) {
+        return Verdict::Fault(Reason::NotZero, i);
+    }
+    if !pair_ok(c) {
+        return Verdict::Fault(Reason::NotAbove, i);
+    }
+    Verdict::Valid
+}
+
+fn is_valid(v: Verdict) -> bool
+    ensures { λ r. ⌜ r ≡ isValid v ⌝ }
+{
+    match v {
+        Verdict::Valid => true,
+        Verdict::Fault(_, _) => false,
+    }
+}
+
+// Each record by itself, the lowest first.
+fn each_record(t: &[u8]) -> Verdict
+    ensures { λ r. ⌜ r ≡ recordsTo records (now (t .entry)) (length (now (t .entry)) / 32) ⌝ }
+{
+    let n = table::count(t);
+    let mut i = 0;
+    while i < n {
+        let v = record(t, i);
+        if !is_valid(v) {
+            return v;
+        }
+        i += 1;
+    }
+    Verdict::Valid
+}
+
+// No call reference stands in two parts.
+fn each_reference(t: &[u8]) -> Verdict
+    ensures { λ r. ⌜ r ≡ partsTo records (now (t .entry)) (length (now (t .entry)) / 32) ⌝ }
+{
+    match references::first_repeated(t) {
+        Found::At(k) => Verdict::Fault(Reason::Repeated, k / 2),
+        Found::Nothing => Verdict::Valid,
+    }
+}
+
+// The first fault of the table, by its reason and its record.
+pub fn verdict(t: &[u8]) -> Verdict
+    ensures { λ r. ⌜ r ≡ rule.verdict records (now (t .entry)) ⌝ }
+{
+    let v = each_record(t);
+    if is_valid(v) { each_reference(t) } else { v }
+}
+
+fn number(v: Verdict) -> u8
+    ensures { λ r. ⌜ r ≡ verdictNumber v ⌝ }
+{
+    match v {
+        Verdict::Valid => 0,
+        Verdict::Fault(_, _) => 21,
+    }
+}
+
+// 0 for a valid table, 20 for a wrong length, 21 for a table that is not valid.
+pub fn check(t: &[u8]) -> u8
+    ensures { λ r. ⌜ r ≡ checkNumber (now (t .entry)) ⌝ }
+{
+    if !table::right_length(t.len()) {
+        return 20;
+    }
+    number(verdict(t))
+}
