@@ -1,0 +1,88 @@
+// Searches of a route: the circuit that a call with some mark gets, and the one that a call holds or has reserved.
+use rules::mark::Mark;
+use rules::search::Found;
+ghost use mathlib.Core.Path.{_≡_};
+ghost use Prim.Native.Nat.{_/_};
+ghost use lib.ListN.{length};
+ghost use Rattle.rules.specs.Records.{circuitAt};
+ghost use Rattle.rules.specs.Choice.{choice, heldBy, reservedBy};
+ghost use Rattle.choice.specs.Best.{improved, foundIn};
+
+// The greatest rank so far, and the lowest circuit that has it; rank 0 where none was takeable.
+struct Best {
+    rank: u16,
+    at: usize,
+}
+
+impl Best {
+    // The best after circuit i of rank `here`: of equals the earlier one stays.
+    fn improved(self, here: u16, i: usize) -> Best
+        ensures { λ r. ⌜ r ≡ improved self here i ⌝ }
+    {
+        if self.rank < here {
+            Best { rank: here, at: i }
+        } else {
+            self
+        }
+    }
+
+    fn found(self) -> Found
+        ensures { λ r. ⌜ r ≡ foundIn self ⌝ }
+    {
+        if 0 < self.rank {
+            Found::At(self.at)
+        } else {
+            Found::Nothing
+        }
+    }
+}
+
+// The circuit that a call with this mark gets: the lowest free one, else the best takeable one.
+pub fn choose(t: &[u8], by: Mark) -> Found
+    ensures { λ r. ⌜ r ≡ choice (circuitAt (now (t .entry))) (length (now (t .entry)) / 32) by ⌝ }
+{
+    let n = table::count(t);
+    let mut best = Best { rank: 0, at: 0 };
+    let mut i = 0;
+    while i < n {
+        let circuit = table::circuit_at(t, i);
+        if circuit.free() {
+            return Found::At(i);
+        }
+        best = best.improved(circuit.rank(by), i);
+        i += 1;
+    }
+    best.found()
+}
+
+// The circuit that the call with this reference holds.
+pub fn held_by(t: &[u8], reference: [u8; 5]) -> Found
+    ensures { λ r. ⌜ r ≡ heldBy (circuitAt (now (t .entry))) (length (now (t .entry)) / 32) reference ⌝ }
+{
+    let n = table::count(t);
+    let mut i = 0;
+    while i < n {
+        let holder = table::circuit_at(t, i).holder;
+        if holder.is_of(reference) {
+            return Found::At(i);
+        }
+        i += 1;
+    }
+    Found::Nothing
+}
+
+// The circuit that it has reserved.
+pub fn reserved_by(t: &[u8], reference: [u8; 5]) -> Found
+    ensures { λ r. ⌜ r ≡ reservedBy (circuitAt (now (t .entry))) (length (now (t .entry)) / 32) reference ⌝ }
+{
+    let n = table::count(t);
+    let mut i = 0;
+    while i < n {
+        let reservation = table::circuit_at(t, i).reservation;
+        if reservation.is_of(reference) {
+            return Found::At(i);
+        }
+        i += 1;
+    }
+    Found::Nothing
+}

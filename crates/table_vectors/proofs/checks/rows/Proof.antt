@@ -1,0 +1,24 @@
+-- The loop counts to sixty-four.
+use Prim.Native.Nat.{_≤_, _-_}
+use borrow.Author.Needs.{needs}
+use Rattle.table_vectors.proofs.checks.rows.Statement.{statement}
+use Rattle.table_vectors.proofs.checks.rows.Tie as tie
+
+abbrev Inv-loop : tie.InvT-loop
+Inv-loop k₀ k = k ≤ 64
+
+abbrev μ-loop : tie.MeasureT-loop
+μ-loop k₀ k = 64 - k
+
+pub rows-spec : {M : Type 1} → statement M
+rows-spec =
+    tie.close
+    (tie.spec
+    Inv-loop
+    μ-loop
+    (λ c. search needs)
+    (λ c κs. search needs)
+    (λ c. search needs)
+    (λ c. search needs)
+    (λ c. search needs)
+    (λ c. search needs))

@@ -1,0 +1,10 @@
+// The check, the choice and the lamp map on both sides of each line, as tables that a person can read.
+mod checks;
+mod choices;
+mod text;
+
+fn main() {
+    checks::lengths();
+    checks::octets_changed();
+    choices::marks();
+}
