@@ -11,7 +11,7 @@ fn nobody() -> Part {
     checks::part(0, 0).emptied()
 }
 
-fn held(level: u8, identity: u8) -> Circuit {
+pub fn held(level: u8, identity: u8) -> Circuit {
     Circuit {
         holder: checks::part(level, identity),
         reservation: nobody(),

@@ -1,0 +1,8 @@
+-- Any two results that the contract of the lamp map allows coincide.
+use mathlib.Core.Path.{_≡_, sym, _∙_}
+use Rattle.octets.proofs.Determined.{OneResult}
+use Rattle.lamps.proofs.map.Kinds as map-kinds
+use Rattle.lamps.proofs.map.Reads as map
+
+pub map-result : OneResult 1 map-kinds.ps map-kinds.r map.Post
+map-result κs a x y e f p q = p ∙ sym q

@@ -1,0 +1,7 @@
+pub mod Words
+pub mod Counts
+pub mod Lit
+pub mod Shown
+pub mod LowestLamp
+pub mod Checked
+pub mod Determined

@@ -1,0 +1,56 @@
+-- 01, "Lamp map": four words of 64 lamps, lit where free, and the number lit.
+use Prim.Native.Nat.{ℕ, zero, suc, _+_, _*_, _/_, _%_, _^_}
+use mathlib.Core.Bool.{Bool, cond, _&&_}
+use mathlib.Core.List.{List, [], _∷_}
+use lib.ListN.{length, getD, replicate}
+use lib.Dec.{eqb, ltb}
+use Rattle.rules.specs.declared.circuit.Circuit.{Circuit}
+use Rattle.rules.specs.declared.search.Found.{Found}
+use Rattle.rules.specs.Search.{countTo, firstTo}
+use Rattle.rules.specs.Circuit.{free}
+use Rattle.rules.specs.Records.{circuitAt, checkNumber}
+use Rattle.lamps.specs.declared.Lamps.{Lamps}
+
+-- lamp c of a route is lit where circuit c is free; lamps past the table's end are dark
+unfoldable pub lit : (ℕ → Circuit) → ℕ → ℕ → Bool
+lit x n c = ltb c n && free (x c)
+
+abbrev pub litAt : List ℕ → ℕ → Bool  -- lamp c of a table
+litAt t = lit (circuitAt t) (length t / 32)
+
+-- the word of k lamps from lamp b on: lamp b at bit 0, each next lamp at the next bit
+unfoldable pub wordFrom : (ℕ → Bool) → ℕ → ℕ → ℕ
+wordFrom f b zero = 0
+wordFrom f b (suc k) = cond (f b) 1 0 + 2 * wordFrom f (suc b) k
+
+abbrev pub word : (ℕ → Bool) → ℕ → ℕ  -- lamp 64 × j + i at bit i of word j
+word f j = wordFrom f (64 * j) 64
+
+abbrev pub fourWords : (ℕ → Bool) → List ℕ  -- four words of 64 lamps
+fourWords f = word f 0 ∷ word f 1 ∷ word f 2 ∷ word f 3 ∷ []
+
+abbrev pub bit : ℕ → ℕ → Bool  -- bit i of a word is 1
+bit w i = eqb (w / 2 ^ i % 2) 1
+
+unfoldable pub lampIn : List ℕ → ℕ → Bool  -- lamp c as four words show it
+lampIn ws c = bit (getD ws (c / 64) 0) (c % 64)
+
+unfoldable pub numberIn : List ℕ → ℕ  -- the number lit, of the 256 lamps of four words
+numberIn ws = countTo (lampIn ws) 256
+
+unfoldable pub lowestIn : List ℕ → Found  -- the lowest lit lamp of four words, if there is one
+lowestIn ws = firstTo (lampIn ws) 256
+
+-- the lamps of n circuits x, and how many of the circuits are free
+abbrev pub litRoute : (ℕ → Circuit) → ℕ → Lamps
+litRoute x n = record { number = 0; lit = countTo (λ i. free (x i)) n; words = fourWords (lit x n) }
+
+abbrev pub litMap : List ℕ → Lamps  -- the lamps of a table's circuits
+litMap t = litRoute (circuitAt t) (length t / 32)
+
+abbrev pub darkMap : ℕ → Lamps  -- at 20 and 21 all are zero
+darkMap number = record { number = number; lit = 0; words = replicate 4 0 }
+
+-- the words come back as values with number 0, 20 or 21
+unfoldable pub lampMap : List ℕ → Lamps
+lampMap t = cond (eqb (checkNumber t) 0) (litMap t) (darkMap (checkNumber t))

@@ -1,0 +1,109 @@
+// The lamp map: four words of 64 lamps, lit where a circuit is free, and the number lit.
+use rules::search::Found;
+ghost use mathlib.Core.Path.{_≡_};
+ghost use mathlib.Core.Bool.{cond};
+ghost use Prim.Native.Nat.{_/_, _-_, _≤_, _<_, min};
+ghost use lib.ListN.{length};
+ghost use Rattle.lamps.specs.Lamps.{litAt, word, numberIn, lowestIn, litMap, darkMap, lampMap};
+
+pub struct Lamps {
+    pub number: u8,
+    pub lit: u16,
+    pub words: [u64; 4],
+}
+
+// A lamp as a digit.
+fn digit(on: bool) -> u64
+    ensures { λ r. ⌜ (r ≡ cond on 1 0) × (r < 2) ⌝ }
+{
+    if on { 1 } else { 0 }
+}
+
+// How many of n circuits have their lamps in the word from `base` on.
+fn within(n: usize, base: usize) -> usize
+    ensures { λ r. ⌜ r ≡ min (n - base) 64 ⌝ }
+{
+    if n <= base {
+        return 0;
+    }
+    if n - base < 64 { n - base } else { 64 }
+}
+
+// Word j, built from its top lamp down: each lamp moves those above it up by one bit.
+fn word(t: &[u8], j: usize) -> u64
+    requires { ⌜ j < 4 ⌝ }
+    ensures { λ r. ⌜ r ≡ word (litAt (now (t .entry))) j ⌝ }
+{
+    let base = 64 * j;
+    let mut w: u64 = 0;
+    let mut i = within(table::count(t), base);
+    while 0 < i {
+        i -= 1;
+        w = 2 * w + digit(table::circuit_at(t, base + i).free());
+    }
+    w
+}
+
+// The number lit.
+fn number_in(words: [u64; 4]) -> u16
+    ensures { λ r. ⌜ r ≡ numberIn words ⌝ }
+{
+    let mut n: u32 = 0;
+    let mut j = 0;
+    while j < 4 {
+        n += u64::count_ones(words[j]);
+        j += 1;
+    }
+    n as u16
+}
+
+// The lowest lit lamp: in the first word that is not 0, the bit above its trailing zeros.
+pub fn lowest(words: [u64; 4]) -> Found
+    ensures { λ r. ⌜ r ≡ lowestIn words ⌝ }
+{
+    let mut j = 0;
+    while j < 4 {
+        if words[j] != 0 {
+            return Found::At(64 * j + u64::trailing_zeros(words[j]) as usize);
+        }
+        j += 1;
+    }
+    Found::Nothing
+}
+
+// The lamps of a table.
+pub fn lit_map(t: &[u8]) -> Lamps
+    requires { ⌜ length (now t) / 32 ≤ 256 ⌝ }
+    ensures { λ r. ⌜ r ≡ litMap (now (t .entry)) ⌝ }
+{
+    let words = [word(t, 0), word(t, 1), word(t, 2), word(t, 3)];
+    let lit = number_in(words);
+    Lamps {
+        number: 0,
+        lit,
+        words,
+    }
+}
+
+// Where there is no map.
+fn dark(number: u8) -> Lamps
+    ensures { λ r. ⌜ r ≡ darkMap number ⌝ }
+{
+    let words = [0u64; 4];
+    Lamps {
+        number,
+        lit: 0,
+        words,
+    }
+}
+
+// The map of a valid table; at 20 and 21 all is dark.
+pub fn map(t: &[u8]) -> Lamps
+    ensures { λ r. ⌜ r ≡ lampMap (now (t .entry)) ⌝ }
+{
+    let number = validity::check(t);
+    if number != 0 {
+        return dark(number);
+    }
+    lit_map(t)
+}
