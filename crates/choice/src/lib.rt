@@ -1,9 +1,11 @@
 // Searches of a route: the circuit that a call with some mark gets, and the one that a call holds or has reserved.
+use rules::circuit::Circuit;
 use rules::mark::Mark;
 use rules::search::Found;
 ghost use mathlib.Core.Path.{_≡_};
 ghost use Prim.Native.Nat.{_/_};
 ghost use lib.ListN.{length};
+ghost use Rattle.rules.specs.Circuit.{rank};
 ghost use Rattle.rules.specs.Records.{circuitAt};
 ghost use Rattle.rules.specs.Choice.{choice, heldBy, reservedBy};
 ghost use Rattle.choice.specs.Best.{improved, foundIn};
@@ -15,12 +17,16 @@ struct Best {
 }
 
 impl Best {
-    // The best after circuit i of rank `here`: of equals the earlier one stays.
-    fn improved(self, here: u16, i: usize) -> Best
-        ensures { λ r. ⌜ r ≡ improved self here i ⌝ }
+    // The best after circuit i: of equals the earlier one stays. Its worth is compared before its mark, which seldom has to be.
+    fn improved(self, circuit: Circuit, by: Mark, i: usize) -> Best
+        ensures { λ r. ⌜ r ≡ improved self (rank by circuit) i ⌝ }
     {
-        if self.rank < here {
-            Best { rank: here, at: i }
+        let worth = circuit.worth();
+        if worth <= self.rank {
+            return self;
+        }
+        if circuit.takeable(by) {
+            Best { rank: worth, at: i }
         } else {
             self
         }
@@ -49,7 +55,7 @@ pub fn choose(t: &[u8], by: Mark) -> Found
         if circuit.free() {
             return Found::At(i);
         }
-        best = best.improved(circuit.rank(by), i);
+        best = best.improved(circuit, by, i);
         i += 1;
     }
     best.found()

@@ -6,7 +6,7 @@ use crate::outcome::Act;
 use crate::part::Part;
 ghost use mathlib.Core.Path.{_≡_};
 ghost use Prim.Native.Nat.{_<_};
-ghost use Rattle.rules.specs.Circuit.{free, standing, takeable, worth, rank, overdue, made};
+ghost use Rattle.rules.specs.Circuit.{free, standing, takeable, worth, overdue, made};
 
 pub struct Circuit {
     pub holder: Part,
@@ -53,7 +53,7 @@ impl Circuit {
     }
 
     // How gladly a call takes the circuit, if it is takeable: by the level number, then one with no holder.
-    fn worth(self) -> u16
+    pub fn worth(self) -> u16
         ensures { λ r. ⌜ r ≡ worth self ⌝ }
     {
         let level = wide(self.standing().level.0);
@@ -62,13 +62,6 @@ impl Circuit {
         } else {
             2 + 2 * level
         }
-    }
-
-    // 0 for a circuit that is not takeable.
-    pub fn rank(self, by: Mark) -> u16
-        ensures { λ r. ⌜ r ≡ rank by self ⌝ }
-    {
-        if self.takeable(by) { self.worth() } else { 0 }
     }
 
     pub fn overdue(self, clock: u32) -> bool

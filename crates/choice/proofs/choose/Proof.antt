@@ -29,7 +29,7 @@ returns c =
 
 loop-again : tie.Need-loop-again Inv-loop μ-loop
 loop-again c =
-    let passing = c .before .before in
+    let passing = c .before in
     let read = passing .before .before in
     let at = read .before .before in
     let a = at .before .before .before .args in
@@ -37,7 +37,7 @@ loop-again c =
       omega arith,
       went-on free x (at .loop .i) (at .loop .inv .1) (read .circuit-at .ensures) (passing .before .free .ensures) (passing .if1 .left),
       carried-on (ranks x (a .by)) (at .loop .i) (at .loop .inv .2)
-          (c .before .rank .ensures ∙ ap (rank (a .by)) (read .circuit-at .ensures)) (c .improved .ensures),
+          (ap (rank (a .by)) (read .circuit-at .ensures)) (c .improved .ensures),
     )
 
 returns-2 : tie.Need-returns-2 Inv-loop μ-loop
@@ -58,7 +58,6 @@ choose-spec =
     (λ c κs. search needs)
     (λ c κs. search needs)
     returns
-    (λ c κs. search needs)
     (λ c κs. search needs)
     (λ c. search needs)
     (λ c. search needs)
