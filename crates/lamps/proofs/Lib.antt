@@ -5,3 +5,4 @@ pub mod Shown
 pub mod LowestLamp
 pub mod Checked
 pub mod Determined
+pub mod Claimed

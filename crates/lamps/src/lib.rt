@@ -72,7 +72,7 @@ pub fn lowest(words: [u64; 4]) -> Found
 }
 
 // The lamps of a table.
-pub fn lit_map(t: &[u8]) -> Lamps
+fn lit_map(t: &[u8]) -> Lamps
     requires { ⌜ length (now t) / 32 ≤ 256 ⌝ }
     ensures { λ r. ⌜ r ≡ litMap (now (t .entry)) ⌝ }
 {

@@ -37,7 +37,7 @@ pub fn part_at(t: &[u8], o: usize) -> Part
     ensures { λ r. ⌜ r ≡ partAt (now (t .entry)) o ⌝ }
 {
     let present = t[o] == 1;
-    let level = Level(t[o + 1]);
+    let level = Level::in_record(t[o + 1]);
     let domain = octets::read_five(t, o + 2);
     let reference = octets::read_five(t, o + 7);
     let mark = Mark { level, domain };

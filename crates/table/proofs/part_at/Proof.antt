@@ -1,5 +1,4 @@
 -- The flag, the level, the domain, the reference.
-use Prim.Native.Nat.{_+_}
 use lib.ListN.{getD}
 use lib.Dec.{eqb}
 use denote.Ref.{now}
@@ -14,8 +13,9 @@ part-at-spec =
     (λ c. search needs)
     (λ c. search needs)
     (λ c. search needs)
-    (λ c. search needs)
     (λ c κs. search needs)
     (λ c. search needs)
     (λ c κs. search needs)
-    (λ c. let a = c .before .before .before .before .before .args in λ i. record { present = eqb (getD (now (a .t)) (a .o) 0) 1; mark = record { level = record { 0 = getD (now (a .t)) (a .o + 1) 0 }; domain = c .before .read-five .ensures i }; reference = c .read-five2 .ensures i }))
+    (λ c. search needs)
+    (λ c κs. search needs)
+    (λ c. let a = c .before .before .before .before .before .before .args in λ i. record { present = eqb (getD (now (a .t)) (a .o) 0) 1; mark = record { level = record { 0 = c .before .before .in-record .ensures i }; domain = c .before .read-five .ensures i }; reference = c .read-five2 .ensures i }))
