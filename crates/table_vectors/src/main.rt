@@ -7,6 +7,10 @@ mod text;
 fn main() {
     checks::lengths();
     checks::octets_changed();
+    checks::references();
+    checks::ends();
     choices::marks();
+    choices::ties();
+    choices::calls();
     maps::maps();
 }

@@ -1,4 +1,5 @@
 // The lamp map.
+use crate::checks;
 use crate::choices;
 use crate::text;
 use libc::STDOUT_FILENO;
@@ -35,12 +36,12 @@ fn shown(t: &[u8]) {
     word(words[0]);
     match lamps::lowest(words) {
         Found::At(i) => text::number(i as u64),
-        Found::Nothing => text::put(b"-"),
+        Found::Nothing => text::put(b"-       "),
     }
     text::put(b"\n");
 }
 
-// The first n octets of a table of 256 free circuits.
+// The first n octets of 257 free records.
 fn empty(n: usize) {
     let t = [0u8; 8224];
     if n <= 8224 {
@@ -53,6 +54,28 @@ fn damaged() {
     let mut t = [0u8; 64];
     t[28] = 1;
     shown(&t);
+}
+
+// A reserved circuit, a held one with a reservation above it, and a free one.
+fn reserved() {
+    let mut t = [0u8; 96];
+    table::store(&mut t, 0, choices::reserved(3, 1));
+    table::store(&mut t, 1, choices::above(4, 3));
+    shown(&t);
+}
+
+// All of 256 circuits but one are held.
+fn all_but(k: usize) {
+    let mut t = [0u8; 8192];
+    hold(&mut t, 1);
+    if k < 256 {
+        table::store(
+            &mut t,
+            k,
+            checks::circuit(checks::nobody(), checks::nobody()),
+        );
+        shown(&t);
+    }
 }
 
 // n circuits of which each multiple of the step is held.
@@ -85,6 +108,11 @@ pub fn maps() {
     empty(8224);
     empty(33);
     damaged();
+    reserved();
+    all_but(63);
+    all_but(64);
+    all_but(130);
+    all_but(255);
     held(3, 1);
     held(64, 1);
     held(256, 1);

@@ -1,14 +1,14 @@
--- The loop counts to sixty-four.
+-- The loop counts to a hundred and twenty-eight.
 use Prim.Native.Nat.{_≤_, _-_}
 use borrow.Author.Needs.{needs}
 use Rattle.table_vectors.proofs.checks.rows.Statement.{statement}
 use Rattle.table_vectors.proofs.checks.rows.Tie as tie
 
 abbrev Inv-loop : tie.InvT-loop
-Inv-loop k₀ k = k ≤ 64
+Inv-loop k₀ k = k ≤ 128
 
 abbrev μ-loop : tie.MeasureT-loop
-μ-loop k₀ k = 64 - k
+μ-loop k₀ k = 128 - k
 
 pub rows-spec : {M : Type 1} → statement M
 rows-spec =
