@@ -12,7 +12,7 @@ use Rattle.rules.specs.Event.{wellFormed}
 use Rattle.rules.specs.Decision.{onReservation, setUp, lookAhead, release, cancel, decision}
 use Rattle.rules.specs.Answer.{answerOf, nowhere}
 use Rattle.rules.specs.Valid.{levelsOk, fieldsOk, pairOk, repeated, recordVerdict, verdict, valid}
-use Rattle.rules.specs.Run.{decide, effect, after, answer}
+use Rattle.rules.specs.Run.{decide, effect, after, answer, answered}
 use Rattle.rules.specs.Records.{putCircuit, flagsAt, blankAt, records}
 use Rattle.rules.specs.Vectors.{immediate, priority, event, setsUp, releases, looksAhead, answerTo, line, nobodyLost, lost, allSame}
 
@@ -83,5 +83,5 @@ cases =
     ∷ []
 
 pub cases-hold : allSame cases ≡ true
-unfolding immediate priority event setsUp releases cancels looksAhead full above reservationLost damaged elsewhere cases answerTo line nobodyLost lost answer after effect decide decision setUp lookAhead release cancel onReservation choice heldBy reservedBy rank worth takeable answerOf valid verdict recordVerdict repeated levelsOk fieldsOk pairOk decimal codeOk wellFormed parameterOk records putCircuit flagsAt blankAt
+unfolding immediate priority event setsUp releases cancels looksAhead full above reservationLost damaged elsewhere cases answerTo line nobodyLost lost answer answered after effect decide decision setUp lookAhead release cancel onReservation choice heldBy reservedBy rank worth takeable answerOf valid verdict recordVerdict repeated levelsOk fieldsOk pairOk decimal codeOk wellFormed parameterOk records putCircuit flagsAt blankAt
 cases-hold = refl

@@ -1,0 +1,1 @@
+// What is decided of an event over a table.

@@ -1,0 +1,1 @@
+// An event read from its octets, an answer written in its octets.

@@ -1,0 +1,1 @@
+// One event applied to a table, and a list of events.
