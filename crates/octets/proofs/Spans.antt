@@ -75,6 +75,12 @@ module _ (s : List ℕ) (o : ℕ) (t : List ℕ) (p : ℕ) where
       let f : p ≡ p + 0 = omega arith in
       ap (λ (n : ℕ). getD s n 0) e ∙ h 0 l ∙ ap (λ (n : ℕ). getD t n 0) (sym f)
 
+-- a part of a part is a part of the whole
+pub span-span : (t : List ℕ) (o w a v : ℕ) → a + v ≤ w → span (span t o w) a v ≡ span t (o + a) v
+span-span t o w a v f =
+    span-cong (span t o w) a t (o + a) v
+    (λ k l. span-at t o w (a + k) (omega arith) ∙ ap (λ (n : ℕ). getD t n 0) (sym (add-assoc o a k)))
+
 -- a part of what agrees agrees
 pub agree-sub : (s : List ℕ) (o : ℕ) (t : List ℕ) (p w a v : ℕ) → a + v ≤ w → Agree s o t p w → Agree s (o + a) t (p + a) v
 agree-sub s o t p w a v f h k l =

@@ -4,7 +4,7 @@ ghost use mathlib.Core.List.{_∷_, []};
 ghost use Prim.Native.Nat.{_+_, _≤_};
 ghost use lib.ListN.{length};
 ghost use Rattle.octets.specs.Number.{value, octets};
-ghost use Rattle.octets.specs.Span.{span, number, put};
+ghost use Rattle.octets.specs.Span.{span, number, put, zeros};
 ghost use Rattle.octets.specs.Same.{same};
 
 // Whether two domains, or two references, are the same: all five octets.
@@ -73,6 +73,21 @@ pub fn read_four(s: &[u8], at: usize) -> u32
     ensures { λ r. ⌜ r ≡ number (now (s .entry)) at 4 ⌝ }
 {
     join_four(s[at], s[at + 1], s[at + 2], s[at + 3])
+}
+
+// Four octets are zero: as one number, since that is one test.
+pub fn zero_four(s: &[u8], at: usize) -> bool
+    requires { ⌜ at + 4 ≤ length (now s) ⌝ }
+    ensures { λ r. ⌜ r ≡ zeros (span (now (s .entry)) at 4) ⌝ }
+{
+    read_four(s, at) == 0
+}
+
+// A number as two octets, the low one first.
+pub fn split_two(x: u16) -> [u8; 2]
+    ensures { λ r. ⌜ r ≡ octets 2 x ⌝ }
+{
+    [(x % 256) as u8, (x / 256) as u8]
 }
 
 // A number as four octets, the low one first.

@@ -2,6 +2,7 @@
 use crate::mark::Mark;
 ghost use mathlib.Core.Path.{_≡_};
 ghost use Rattle.rules.specs.Circuit.{nobody, isOf};
+ghost use Rattle.rules.specs.Records.{flag};
 
 pub struct Part {
     pub present: bool,
@@ -10,6 +11,13 @@ pub struct Part {
 }
 
 impl Part {
+    // Its flag in a record.
+    pub fn flag(self) -> u8
+        ensures { λ r. ⌜ r ≡ flag (self .present) ⌝ }
+    {
+        if self.present { 1 } else { 0 }
+    }
+
     // Whether the call with this reference stands here.
     pub fn is_of(self, reference: [u8; 5]) -> bool
         ensures { λ r. ⌜ r ≡ isOf reference self ⌝ }

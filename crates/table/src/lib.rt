@@ -8,7 +8,7 @@ ghost use Prim.Native.Nat.{_+_, _*_, _/_, _<_, _≤_};
 ghost use lib.ListN.{length};
 ghost use Rattle.octets.specs.Span.{span, zeros};
 ghost use Rattle.rules.specs.Valid.{partNo};
-ghost use Rattle.rules.specs.Records.{partAt, circuitAt, flag, circuitOctets, putCircuit, flagsAt, blankPart, blankAt, tableLength};
+ghost use Rattle.rules.specs.Records.{partAt, circuitAt, circuitOctets, putCircuit, flagsAt, blankPart, blankAt, tableLength};
 
 // A table is 1 to 256 records of 32 octets.
 pub fn right_length(n: usize) -> bool
@@ -72,12 +72,6 @@ pub fn circuit_at(t: &[u8], i: usize) -> Circuit
     }
 }
 
-fn flag(b: bool) -> u8
-    ensures { λ r. ⌜ r ≡ flag b ⌝ }
-{
-    if b { 1 } else { 0 }
-}
-
 // A circuit as its record.
 fn record(c: Circuit) -> [u8; 32]
     ensures { λ r. ⌜ r ≡ circuitOctets c ⌝ }
@@ -89,8 +83,8 @@ fn record(c: Circuit) -> [u8; 32]
     let p = h.reference;
     let q = r.reference;
     let s = octets::split_four(c.clock);
-    let a = flag(h.present);
-    let b = flag(r.present);
+    let a = h.flag();
+    let b = r.flag();
     [
         a,
         h.mark.level.0,
@@ -145,25 +139,18 @@ pub fn flags(t: &[u8], i: usize) -> bool
     if t[o] <= 1 { t[o + 12] <= 1 } else { false }
 }
 
-// Four octets are zero: as one number, since that is one test.
-fn zero_four(t: &[u8], o: usize) -> bool
-    requires { ⌜ o + 4 ≤ length (now t) ⌝ }
-    ensures { λ r. ⌜ r ≡ zeros (span (now (t .entry)) o 4) ⌝ }
-{
-    octets::read_four(t, o) == 0
-}
-
+// Twelve octets are zero, four by four.
 fn zero_twelve(t: &[u8], o: usize) -> bool
     requires { ⌜ o + 12 ≤ length (now t) ⌝ }
     ensures { λ r. ⌜ r ≡ zeros (span (now (t .entry)) o 12) ⌝ }
 {
-    if !zero_four(t, o) {
+    if !octets::zero_four(t, o) {
         return false;
     }
-    if !zero_four(t, o + 4) {
+    if !octets::zero_four(t, o + 4) {
         return false;
     }
-    zero_four(t, o + 8)
+    octets::zero_four(t, o + 8)
 }
 
 fn zero_sixteen(t: &[u8], o: usize) -> bool
@@ -173,7 +160,7 @@ fn zero_sixteen(t: &[u8], o: usize) -> bool
     if !zero_twelve(t, o) {
         return false;
     }
-    zero_four(t, o + 12)
+    octets::zero_four(t, o + 12)
 }
 
 // The holder's part of a record is present or zero.
@@ -204,5 +191,5 @@ pub fn blank(t: &[u8], i: usize) -> bool
     if !reservation_blank(t, o + 12) {
         return false;
     }
-    zero_four(t, o + 28)
+    octets::zero_four(t, o + 28)
 }
