@@ -2,7 +2,7 @@
 use Prim.Native.Nat.{ℕ, zero, suc, _+_, _*_, _<_, _≤_}
 use mathlib.Core.Path.{_≡_, refl, sym, ap, ap₂, _∙_, subst}
 use mathlib.Core.Logic.{⊎-elim, _⊎_, inl, inr}
-use mathlib.Core.Bool.{Bool, true, false, _&&_}
+use mathlib.Core.Bool.{Bool, true, false, _&&_, and-true}
 use mathlib.Core.List.{List, [], _∷_, _++_, append-nil, append-assoc}
 use native.Mathlib.Nat.{not-suc-le-zero, eq-or-lt-of-le, le-of-suc-le-suc, zero-add, add-zero, add-suc, add-assoc}
 use native.Mathlib.Numerals.{add-one}
@@ -176,3 +176,9 @@ zeros-append (b ∷ bs) m = ap (λ (t : Bool). eqb b 0 && t) (zeros-append bs m)
 -- two spans, one behind the other, are zero where both are
 pub zeros-span : (t : List ℕ) (o a b : ℕ) → zeros (span t o (a + b)) ≡ zeros (span t o a) && zeros (span t (o + a) b)
 zeros-span t o a b = ap zeros (span-append t o a b) ∙ zeros-append (span t o a) (span t (o + a) b)
+
+-- one octet more
+pub zeros-more : (t : List ℕ) (o w : ℕ) → zeros (span t o (suc w)) ≡ zeros (span t o w) && eqb (getD t (o + w) 0) 0
+zeros-more t o w =
+    zeros-append (span t o w) (getD t (o + w) 0 ∷ [])
+    ∙ ap (λ (b : Bool). zeros (span t o w) && b) (and-true (eqb (getD t (o + w) 0) 0))
