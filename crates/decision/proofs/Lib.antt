@@ -1,0 +1,3 @@
+pub mod Named
+pub mod Findings
+pub mod Absent
