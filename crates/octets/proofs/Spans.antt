@@ -8,7 +8,7 @@ use native.Mathlib.Nat.{not-suc-le-zero, eq-or-lt-of-le, le-of-suc-le-suc, zero-
 use native.Mathlib.Numerals.{add-one}
 use native.Mathlib.Omega.{arith}
 use lib.ListN.{length, getD, set, replicate, length-set, length-append, List·getD-append}
-use lib.Seq.{getD-set-same, getD-set-other, getD-at, ext-getD, set-getD}
+use lib.Seq.{getD-set-same, getD-set-other, getD-at, ext-getD, set-getD, getD-append-add}
 use lib.Dec.{eqb}
 use borrow.Author.Tests.{eqb-true, eq-eqb, ne-eqb}
 use Rattle.octets.specs.Number.{value, Octets}
@@ -124,6 +124,21 @@ pub put-whole : (t v : List ℕ) → length v ≡ length t → put t 0 v ≡ v
 put-whole t v e =
     ext-getD 0 (put t 0 v) v (length-put t 0 v ∙ sym e)
     (λ i h. ap (λ (n : ℕ). getD (put t 0 v) n 0) (sym (zero-add i)) ∙ within t 0 v (length v) i (omega arith) (omega (arith, length-put t 0 v)))
+
+-- writing one row and then another behind it is writing both
+first-to : (t : List ℕ) (o : ℕ) (v w : List ℕ) (k : ℕ) → k ≤ length v → putTo t o v k ≡ putTo t o (v ++ w) k
+first-to t o v w zero l = refl
+first-to t o v w (suc k) l =
+    ap₂ (λ (u : List ℕ) (b : ℕ). set u (o + k) b) (first-to t o v w k (omega arith)) (sym (List·getD-append v w 0 k l))
+
+then-to : (t : List ℕ) (o : ℕ) (v w : List ℕ) (k : ℕ) → putTo (put t o v) (o + length v) w k ≡ putTo t o (v ++ w) (length v + k)
+then-to t o v w zero = first-to t o v w (length v) (omega arith) ∙ ap (putTo t o (v ++ w)) (sym (add-zero (length v)))
+then-to t o v w (suc k) =
+    (λ d. set (then-to t o v w k d) (add-assoc o (length v) k d) (sym (getD-append-add v w k 0) d))
+    ∙ ap (putTo t o (v ++ w)) (sym (add-suc (length v) k))
+
+pub put-put : (t : List ℕ) (o : ℕ) (v w : List ℕ) → put (put t o v) (o + length v) w ≡ put t o (v ++ w)
+put-put t o v w = then-to t o v w (length w) ∙ ap (putTo t o (v ++ w)) (sym (length-append v w))
 
 -- writing what stands there changes nothing
 same-to : (t : List ℕ) (o : ℕ) (v : List ℕ) (k : ℕ) → Agree t o v 0 k → putTo t o v k ≡ t

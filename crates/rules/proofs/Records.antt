@@ -127,7 +127,7 @@ apart c i ne = go (decLt c i)
     go (no n) = inr (omega arith)
 
 module _ (t : List ℕ) (i : ℕ) (y : Circuit) where
-  count-put : length (putCircuit t i y) / 32 ≡ length t / 32
+  pub count-put : length (putCircuit t i y) / 32 ≡ length t / 32
   unfolding putCircuit
   count-put = ap (λ (n : ℕ). n / 32) (length-put t (32 * i) (circuitOctets y))
 
@@ -140,6 +140,9 @@ module _ (t : List ℕ) (i : ℕ) (y : Circuit) where
   off c ne =
       put-off t (32 * i) (circuitOctets y) (32 * c) 32
       (⊎-elim (λ z. inr (omega arith)) (λ z. inl (omega arith)) (apart c i ne))
+
+  pub circuit-off : (c : ℕ) → c ≢ i → circuitAt (putCircuit t i y) c ≡ circuitAt t c
+  circuit-off c ne = circuit-cong (putCircuit t i y) c t c (off c ne)
 
   -- what a reader f of one record finds at c: what was stored, or what stood there
   module _ {A : Type 0} (f : List ℕ → ℕ → A) (cong : (s : List ℕ) (j : ℕ) (u : List ℕ) (k : ℕ) → Agree s (32 * j) u (32 * k) 32 → f s j ≡ f u k) (a : A) where

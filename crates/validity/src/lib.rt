@@ -152,6 +152,13 @@ pub fn verdict(t: &[u8]) -> Verdict
     if is_valid(v) { each_reference(t) } else { v }
 }
 
+// Whether there is none.
+pub fn valid(t: &[u8]) -> bool
+    ensures { λ r. ⌜ r ≡ rule.valid records (now (t .entry)) ⌝ }
+{
+    is_valid(verdict(t))
+}
+
 fn number(v: Verdict) -> u8
     ensures { λ r. ⌜ r ≡ verdictNumber v ⌝ }
 {

@@ -1,0 +1,5 @@
+pub mod Swept
+pub mod Told
+pub mod Applied
+pub mod Listed
+pub mod Whole

@@ -1,0 +1,38 @@
+-- Read, decided, answered, done, written.
+use mathlib.Core.Path.{ap}
+use denote.Ref.{now}
+use Rattle.octets.specs.Span.{span}
+use Rattle.rules.specs.declared.answer.Answer.{Answer}
+use Rattle.route.proofs.Applied.{applied-answer, applied-table, applied-octets}
+use borrow.Author.Needs.{needs}
+use Rattle.route.proofs.apply.Statement.{statement}
+use Rattle.route.proofs.apply.Tie as tie
+
+returns : tie.Need-returns
+returns c =
+    let done = c .before .before .before .before .before .before in
+    let told = done .before .before in
+    let decided = told .before .before in
+    let read = decided .before .before in
+    let a = read .before .before .before .before .args in
+    let t = now (a .t) in
+    let o = span (now (a .es)) (a .o) 16 in (
+      ap (λ (r : Answer). r .number) (applied-answer t o (read .read .ensures) (decided .decide .ensures .0) (told .answer .ensures)),
+      (
+        applied-table t o (read .read .ensures) (decided .decide .ensures .0) (done .effect .ensures),
+        applied-octets t o (read .read .ensures) (decided .decide .ensures .0) (told .answer .ensures) (now (a .answers)) (a .o) (c .before .before .write .ensures),
+      ),
+    )
+
+pub apply-spec : {M : Type 1} → statement M
+apply-spec =
+    tie.close
+    (tie.spec
+    (λ c κs. search needs)
+    (λ c κs. search needs)
+    (λ c κs. search needs)
+    (λ c κs. search needs)
+    (λ c κs. search needs)
+    (λ c. search needs)
+    (λ c. search needs)
+    returns)

@@ -1,0 +1,74 @@
+-- The table and the answers after k events are what the first k events make of them.
+use Prim.Native.Nat.{_*_, _-_, _/_, _≤_}
+use mathlib.Core.Path.{_≡_, refl, sym, ap, ap₂, _∙_}
+use mathlib.Core.List.{List}
+use lib.ListN.{length}
+use denote.Ref.{now}
+use native.Mathlib.Omega.{arith}
+use borrow.Author.Needs.{needs}
+use Rattle.octets.specs.Span.{span, put}
+use Rattle.rules.specs.Valid.{valid}
+use Rattle.rules.specs.Run.{after, answer}
+use Rattle.rules.specs.Records.{records}
+use Rattle.rules.proofs.Records.{lawful}
+use Rattle.rules.proofs.Kept.{run-valid}
+use Rattle.route.specs.Entries.{eventsTo}
+use Rattle.route.proofs.Listed.{ran, told, ran-more, none-told, told-more}
+use Rattle.route.proofs.each.Statement.{statement}
+use Rattle.route.proofs.each.Tie as tie
+
+abbrev Inv-loop : tie.InvT-loop
+Inv-loop t₀ es places₀ n good k₀ t places k = (k ≤ n) × (t ≡ ran t₀ es k) × (places ≡ put places₀ 0 (told t₀ es k)) × (length t ≡ length t₀) × (length places ≡ length places₀)
+
+abbrev μ-loop : tie.MeasureT-loop
+μ-loop t₀ es places₀ n good k₀ t places k = n - k
+
+apply-requires : tie.Need-apply-requires Inv-loop μ-loop
+apply-requires c κs =
+    let l = c .before .before .before .loop in
+    let start = c .before .before .before .before .before .before .before in
+    let a = start .args in (
+      omega arith,
+      omega arith,
+      omega arith,
+      start .pre .3 ∙ sym (run-valid records lawful (eventsTo (now (a .es)) (l .k)) (now (a .t))) ∙ ap (valid records) (sym (l .inv .1)),
+    )
+
+loop-again : tie.Need-loop-again Inv-loop μ-loop
+loop-again c =
+    let apply = c .before .before .before .before in
+    let l = apply .before .before .before .before .loop in
+    let a = apply .before .before .before .before .before .before .before .before .args in
+    let t = now (a .t) in
+    let es = now (a .es) in
+    let event = span es (16 * l .k) 16 in (
+      omega arith,
+      apply .apply .ensures .1 .0 ∙ ap (λ (u : List _). after records u event) (l .inv .1) ∙ ran-more t es (l .k),
+      apply .apply .ensures .1 .1 ∙ ap₂ (λ (u p : List _). put p (16 * l .k) (answer records u event)) (l .inv .1) (l .inv .2)
+          ∙ told-more t es (now (a .places)) (l .k),
+      search needs,
+      search needs,
+    )
+
+returns : tie.Need-returns Inv-loop μ-loop
+returns c =
+    let l = c .before .loop in
+    let a = c .before .before .before .before .before .args in
+    let done : l .k ≡ a .n = omega arith in
+    (l .inv .1 ∙ ap (ran (now (a .t)) (now (a .es))) done, l .inv .2 ∙ ap (λ k. put (now (a .places)) 0 (told (now (a .t)) (now (a .es)) k)) done)
+
+pub each-spec : {M : Type 1} → statement M
+each-spec =
+    tie.close
+    (tie.spec
+    Inv-loop
+    μ-loop
+    (λ c. let a = c .before .before .before .args in (omega arith, refl, none-told (now (a .t)) (now (a .es)) (now (a .places)), refl, refl))
+    (λ c. search needs)
+    apply-requires
+    (λ c. search needs)
+    (λ c. search needs)
+    loop-again
+    (λ c. c .before .loop .inv .3)
+    (λ c. c .before .loop .inv .4)
+    returns)

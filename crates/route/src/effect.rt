@@ -1,0 +1,56 @@
+// What an outcome makes of a table.
+use rules::event::Event;
+use rules::outcome::Act;
+use rules::outcome::Outcome;
+ghost use mathlib.Core.Path.{_≡_};
+ghost use mathlib.Core.Bool.{cond};
+ghost use Prim.Native.Nat.{_/_, _<_};
+ghost use lib.ListN.{length};
+ghost use Rattle.rules.specs.Circuit.{overdue, made};
+ghost use Rattle.rules.specs.Run.{sweepTo};
+ghost use Rattle.rules.specs.Run as run;
+ghost use Rattle.rules.specs.Records.{circuitAt, putCircuit, records};
+ghost use Rattle.decision.specs.Within.{Within};
+
+// An act, done on circuit i.
+fn act(t: &mut [u8], e: Event, a: Act, i: usize)
+    requires { ⌜ i < length (now t) / 32 ⌝ }
+    ensures { λ _. ⌜ now (t .exit) ≡ putCircuit (now (t .entry)) i (made e a (circuitAt (now (t .entry)) i)) ⌝ }
+{
+    let c = table::circuit_at(t, i);
+    table::store(t, i, c.made(e, a));
+}
+
+// The reservation on circuit i, removed if it is overdue.
+fn relieve(t: &mut [u8], e: Event, i: usize)
+    requires { ⌜ i < length (now t) / 32 ⌝ }
+    ensures { λ _. ⌜ now (t .exit) ≡ cond (overdue (e .clock) (circuitAt (now (t .entry)) i)) (putCircuit (now (t .entry)) i (made e Act.Cancel (circuitAt (now (t .entry)) i))) (now (t .entry)) ⌝ }
+{
+    if table::circuit_at(t, i).overdue(e.clock) {
+        act(t, e, Act::Cancel, i);
+    }
+}
+
+// Every reservation that is overdue, removed.
+fn sweep(t: &mut [u8], e: Event)
+    ensures { λ _. ⌜ now (t .exit) ≡ sweepTo records (now (t .entry)) e (length (now (t .entry)) / 32) ⌝ }
+{
+    let n = table::count(t);
+    let mut i = 0;
+    while i < n {
+        relieve(t, e, i);
+        i += 1;
+    }
+}
+
+// A refusal changes nothing, an act its circuit alone, a clock event removes what is overdue.
+pub fn effect(t: &mut [u8], e: Event, o: Outcome)
+    requires { ⌜ Within (length (now t) / 32) o ⌝ }
+    ensures { λ _. ⌜ now (t .exit) ≡ run.effect records (now (t .entry)) e o ⌝ }
+{
+    match o {
+        Outcome::Refuse(_) => {}
+        Outcome::Do(a, i) => act(t, e, a, i),
+        Outcome::Clock => sweep(t, e),
+    }
+}
