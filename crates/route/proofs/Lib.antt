@@ -3,3 +3,4 @@ pub mod Told
 pub mod Applied
 pub mod Listed
 pub mod Whole
+pub mod Determined
