@@ -12,7 +12,7 @@ ghost use Rattle.choice.specs.Best.{improved, foundIn};
 
 // The greatest rank so far, and the lowest circuit that has it; rank 0 where none was takeable.
 struct Best {
-    rank: u16,
+    rank: usize,
     at: usize,
 }
 
