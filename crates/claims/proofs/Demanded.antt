@@ -1,0 +1,102 @@
+-- Demand 3, of every set-up in a past and of the next one.
+use Prim.Native.Nat.{ℕ, _*_, _/_, _%_, _<_, _≤_}
+use mathlib.Core.Path.{_≡_, refl, sym, ap, ap₂, _∙_, subst}
+use mathlib.Core.Bool.{Bool, true, cond, _&&_}
+use mathlib.Core.List.{List, [], _∷_, _++_, append-nil}
+use native.Mathlib.Omega.{arith}
+use lib.ListN.{length, length-replicate}
+use lib.Dec.{eqb, leb}
+use borrow.Author.Tests.{eq-eqb, le-leb}
+use Rattle.octets.specs.Span.{span}
+use Rattle.octets.proofs.Tests.{and-both}
+use Rattle.octets.proofs.Spans.{span-all}
+use Rattle.rules.specs.declared.circuit.Circuit.{Circuit}
+use Rattle.rules.specs.Valid.{valid}
+use Rattle.rules.specs.Numbers.{lengthWrong}
+use Rattle.rules.specs.Run.{answer}
+use Rattle.rules.specs.Records.{circuitAt, eventAt, records, tableLength, listLength}
+use Rattle.route.specs.Entries.{listLengths, listNumber, listTable, listAnswers}
+use Rattle.claims.specs.History.{Exchange, empty, heard, historyFrom, history}
+use Rattle.claims.specs.Calls.{Call, emptyTable, exchangesTo, exchanges, tableAfter, past}
+use Rattle.claims.specs.Demand.{HistoryTells, NewSetUp, Answered, Demand3, Demand3Within}
+use Rattle.claims.proofs.Ran.{Ran, Around, ran-around, Shown, shown}
+use Rattle.claims.proofs.Cut.{past-ran, length-left, past-append}
+use Rattle.claims.proofs.Start.{circuit-empty, start-valid}
+use Rattle.claims.proofs.Served.{served}
+
+-- ---- from the empty table
+module _ (n : ℕ) (ps : List Exchange) (u : List ℕ) (ran : Ran (emptyTable n) ps u) where
+  from-empty : Shown (emptyTable n) ps u
+  from-empty = shown ps (emptyTable n) u (start-valid n) ran
+
+  long : length (emptyTable n) ≡ 32 * n
+  long = length-replicate (32 * n) 0
+
+  pub now-valid : valid records u ≡ true
+  now-valid = from-empty .still-valid
+
+  pub now-long : length u ≡ 32 * n
+  now-long = from-empty .as-long ∙ long
+
+  pub now-count : length u / 32 ≡ n
+  now-count = omega (arith, now-long)
+
+  pub now-shows : (c : ℕ) → c < n → circuitAt u c ≡ history ps c
+  now-shows c l = from-empty .tells c (omega (arith, long)) ∙ ap (λ (y : Circuit). historyFrom y ps c) (circuit-empty n c)
+
+pub history-tells : HistoryTells
+history-tells n calls = now-shows n (past (emptyTable n) calls) (tableAfter (emptyTable n) calls) (past-ran calls (emptyTable n))
+
+-- ---- one exchange more
+history-append : (ps qs : List Exchange) (y : Circuit) (c : ℕ) → historyFrom y (ps ++ qs) c ≡ historyFrom (historyFrom y ps c) qs c
+history-append [] qs y c = refl
+history-append (p ∷ ps) qs y c = history-append ps qs (heard p c y) c
+
+pub history-then : (ps : List Exchange) (p : Exchange) → history (ps ++ p ∷ []) ≡ (λ c. heard p c (history ps c))
+history-then ps p = λ d c. history-append ps (p ∷ []) empty c d
+
+pub demand-3-within : Demand3Within
+demand-3-within n calls before p later split new =
+    let a = ran-around before (emptyTable n) p later _ (subst (λ (ps : List Exchange). Ran (emptyTable n) ps (tableAfter (emptyTable n) calls)) split (past-ran calls (emptyTable n))) in
+    let s = a .table in
+    let e = eventAt (p .event) in
+    subst (λ (y : ℕ → Circuit). Answered n (history before) y e (p .answer)) (sym (history-then before p))
+    (subst (λ (m : ℕ). ((c : ℕ) → c < m → circuitAt s c ≡ history before c) → NewSetUp m (history before) e → Answered m (history before) (λ c. heard p c (history before c)) e (p .answer)) (now-count n before s (a .earlier)) (λ q. served s (now-valid n before s (a .earlier)) (history before) q p (a .answer)) (now-shows n before s (a .earlier)) new)
+
+-- ---- the next list, of one event
+module _ (t e place : List ℕ) (sixteen : length e ≡ 16) where
+  abbrev next : Exchange
+  next = record { event = e; answer = listAnswers t e place }
+
+  pub one-exchange : listLengths t e place ≡ true → exchanges t (record { events = e; places = place }) ≡ next ∷ []
+  unfolding exchanges listNumber
+  one-exchange h =
+      ap (λ (b : Bool). cond (eqb (cond b 0 lengthWrong) 0) (exchangesTo e (listAnswers t e place) (length e / 16)) []) h
+      ∙ ap (λ (m : ℕ). exchangesTo e (listAnswers t e place) (m / 16)) sixteen
+      ∙ (λ d.
+      record {
+        event = span-all e 16 sixteen d;
+        answer = span-all (listAnswers t e place) 16 (length-left t e place h ∙ ap (λ (m : ℕ). 16 * (m / 16)) sixteen) d;
+      }
+      ∷ [])
+
+-- the lengths of a table of n circuits and of one event
+pub one-lengths : (t e place : List ℕ) (n : ℕ) → length t ≡ 32 * n → 1 ≤ n → n ≤ 256 → length e ≡ 16 → length place ≡ 16 → listLengths t e place ≡ true
+unfolding listLengths tableLength listLength
+one-lengths t e place n long one many sixteen room =
+    and-both (tableLength (length t)) (listLength (length e) (length place))
+    (and-both (eqb (length t % 32) 0) (leb 1 (length t / 32) && leb (length t / 32) 256) (eq-eqb (length t % 32) 0 (omega arith))
+    (and-both (leb 1 (length t / 32)) (leb (length t / 32) 256) (le-leb 1 (length t / 32) (omega arith)) (le-leb (length t / 32) 256 (omega arith))))
+    (and-both (eqb (length e % 16) 0) (leb (length e / 16) 4096 && eqb (length place) (length e)) (eq-eqb (length e % 16) 0 (omega arith))
+    (and-both (leb (length e / 16) 4096) (eqb (length place) (length e)) (le-leb (length e / 16) 4096 (omega arith)) (eq-eqb (length place) (length e) (omega arith))))
+
+pub demand-3 : Demand3
+demand-3 n one many calls e place sixteen room new =
+    let t = emptyTable n in
+    let u = tableAfter t calls in
+    let k : Call = record { events = e; places = place } in
+    let p : Exchange = record { event = e; answer = listAnswers u e place } in
+    let lengths = one-lengths u e place n (now-long n (past t calls) u (past-ran calls t)) one many sixteen room in
+    let split : past t (calls ++ k ∷ []) ≡ past t calls ++ p ∷ [] = past-append calls (k ∷ []) t ∙ ap (λ (ps : List Exchange). past t calls ++ ps) (append-nil (exchanges u k) ∙ one-exchange u e place sixteen lengths) in
+    subst (λ (ps : List Exchange). Answered n (history (past t calls)) (history ps) (eventAt e) (listAnswers u e place)) (sym split)
+    (demand-3-within n (calls ++ k ∷ []) (past t calls) p [] split new)

@@ -1,0 +1,79 @@
+-- What is answered tells what becomes of each circuit.
+use Prim.Native.Nat.{ℕ, _<_}
+use mathlib.Core.Path.{_≡_, refl, sym, ap, _∙_}
+use mathlib.Core.Bool.{Bool, true, false, cond, _||_}
+use mathlib.Core.List.{List}
+use native.Mathlib.Omega.{arith}
+use lib.Dec.{eqb}
+use borrow.Author.Tests.{ne-eqb}
+use Rattle.octets.proofs.Tests.{by-test}
+use Rattle.rules.specs.declared.circuit.Circuit.{Circuit}
+use Rattle.rules.specs.declared.event.Event.{Event}
+use Rattle.rules.specs.declared.outcome.Act.the-variants.{Seize, Reserve, Release, Cancel}
+use Rattle.rules.specs.declared.outcome.Refusal.{Refusal}
+use Rattle.rules.specs.declared.outcome.Refusal.the-variants.{Malformed, TableNotValid, NotAllowed, ByRoutine, AlreadyThere, MarkDiffers, HolderNotLower, NotThere, NoCircuitForRoutine, NoCircuit, NoCircuitToReserve}
+use Rattle.rules.specs.declared.outcome.Outcome.{Outcome}
+use Rattle.rules.specs.declared.outcome.Outcome.the-variants.{Refuse, Do, Clock}
+use Rattle.rules.specs.Circuit.{overdue, made}
+use Rattle.rules.specs.Numbers.{refusalNumber}
+use Rattle.rules.specs.Answer.{becomes, nowhere, anothers, answerOf}
+use Rattle.rules.specs.Layout.{Layout}
+use Rattle.rules.specs.Valid.{valid}
+use Rattle.rules.specs.Run.{decide, after, answered}
+use Rattle.rules.proofs.Lawful.{Lawful}
+use Rattle.rules.proofs.Kept.{view-after}
+use Rattle.claims.specs.History.{named, told}
+
+pub refusal-high : (r : Refusal) → 19 < refusalNumber r
+refusal-high Malformed = omega arith
+refusal-high TableNotValid = omega arith
+refusal-high NotAllowed = omega arith
+refusal-high ByRoutine = omega arith
+refusal-high AlreadyThere = omega arith
+refusal-high MarkDiffers = omega arith
+refusal-high HolderNotLower = omega arith
+refusal-high NotThere = omega arith
+refusal-high NoCircuitForRoutine = omega arith
+refusal-high NoCircuit = omega arith
+refusal-high NoCircuitToReserve = omega arith
+
+module _ (e : Event) (i c : ℕ) (y : Circuit) where
+  -- an answer above 7 tells of no change
+  pub told-refused : (k : ℕ) → 7 < k → told e k i c y ≡ y
+  unfolding told named
+  told-refused k h =
+      ap (λ (b : Bool). cond b (cond (overdue (e .clock) y) (made e Cancel y) y) (cond (eqb i c) (named e k y) y)) (ne-eqb k 7 (omega arith))
+      ∙ by-test (λ (z : Circuit). z ≡ y) (eqb i c) (named e k y) y (λ q. other) (λ q. refl)
+    where
+      other : named e k y ≡ y
+      other =
+          simp (ne-eqb k 1 (omega arith), ne-eqb k 2 (omega arith), ne-eqb k 3 (omega arith), ne-eqb k 4 (omega arith), ne-eqb k 5 (omega arith), ne-eqb k 6 (omega arith))
+
+  -- whether somebody was lost or not
+  pub told-seized : (lost : Bool) → told e (cond lost 2 1) i c y ≡ cond (eqb i c) (made e Seize y) y
+  unfolding told named
+  told-seized true = refl
+  told-seized false = refl
+
+  told-reserved : (lost : Bool) → told e (cond lost 4 3) i c y ≡ cond (eqb i c) (made e Reserve y) y
+  unfolding told named
+  told-reserved true = refl
+  told-reserved false = refl
+
+-- of any outcome, over circuits x
+pub told-becomes : (x : ℕ → Circuit) (n : ℕ) (e : Event) (c : ℕ) (o : Outcome) → told e (answerOf x n e o .number) (answerOf x n e o .place) c (x c) ≡ becomes e o c (x c)
+unfolding answerOf told named
+told-becomes x n e c (Refuse r) = told-refused e nowhere c (x c) (refusalNumber r) (omega (arith, refusal-high r))
+told-becomes x n e c (Do Seize i) =
+    told-seized e i c (x c) (x i .holder .present || anothers (e .reference) (x i .reservation) .present)
+told-becomes x n e c (Do Reserve i) = told-reserved e i c (x c) (x i .reservation .present)
+told-becomes x n e c (Do Release i) = refl
+told-becomes x n e c (Do Cancel i) = refl
+told-becomes x n e c Clock = refl
+
+-- in any lawful layout, from any valid table
+module _ {S : Type 0} (L : Layout S) (W : Lawful L) (s : S) (e : List ℕ) where
+  pub view-told : valid L s ≡ true → (c : ℕ) → c < L .count s → L .view (after L s e) c ≡ told (L .event e) (answered L s e .number) (answered L s e .place) c (L .view s c)
+  unfolding answered
+  view-told v c l =
+      view-after L W s e v c l ∙ sym (told-becomes (L .view s) (L .count s) (L .event e) c (decide L s (L .event e)))

@@ -1,0 +1,53 @@
+-- What is read from the octets of an answer, and how many octets one event leaves.
+use Prim.Native.Nat.{ℕ, zero, suc, _/_}
+use mathlib.Core.Path.{_≡_, refl, ap, _∙_}
+use mathlib.Core.Bool.{Bool, cond}
+use mathlib.Core.List.{List}
+use lib.ListN.{length}
+use Rattle.octets.proofs.Tests.{by-test}
+use Rattle.octets.proofs.Width.{value-octets}
+use Rattle.octets.proofs.Spans.{length-put}
+use Rattle.rules.specs.declared.circuit.Circuit.{Circuit}
+use Rattle.rules.specs.declared.event.Event.{Event}
+use Rattle.rules.specs.declared.outcome.Act.the-variants.{Cancel}
+use Rattle.rules.specs.declared.outcome.Outcome.{Outcome}
+use Rattle.rules.specs.declared.outcome.Outcome.the-variants.{Refuse, Do, Clock}
+use Rattle.rules.specs.Circuit.{overdue, made}
+use Rattle.rules.specs.Run.{decide, sweepTo, effect, after, answered, answer}
+use Rattle.rules.specs.Records.{circuitAt, circuitOctets, putCircuit, eventAt, records}
+use Rattle.claims.specs.History.{answerNumber, answerPlace}
+
+module _ (t e : List ℕ) where
+  pub length-answer : length (answer records t e) ≡ 16
+  unfolding answer records
+  length-answer = refl
+
+  pub answer-number : answerNumber (answer records t e) ≡ answered records t e .number
+  unfolding answer records
+  answer-number = refl
+
+  pub answer-place : answerPlace (answer records t e) ≡ answered records t e .place
+  unfolding answer records
+  answer-place = value-octets 1 (answered records t e .place)
+
+-- ---- a table keeps its length
+length-circuit : (t : List ℕ) (i : ℕ) (y : Circuit) → length (putCircuit t i y) ≡ length t
+unfolding putCircuit
+length-circuit t i y = length-put t _ (circuitOctets y)
+
+length-sweep : (t : List ℕ) (e : Event) (n : ℕ) → length (sweepTo records t e n) ≡ length t
+unfolding records
+length-sweep t e zero = refl
+length-sweep t e (suc n) =
+    by-test (λ (u : List ℕ). length u ≡ length t) (overdue (e .clock) (circuitAt t n)) (putCircuit (sweepTo records t e n) n (made e Cancel (circuitAt t n))) (sweepTo records t e n)
+    (λ q. length-circuit (sweepTo records t e n) n (made e Cancel (circuitAt t n)) ∙ length-sweep t e n) (λ q. length-sweep t e n)
+
+length-effect : (t : List ℕ) (e : Event) (o : Outcome) → length (effect records t e o) ≡ length t
+unfolding effect records
+length-effect t e (Refuse r) = refl
+length-effect t e (Do a i) = length-circuit t i (made e a (circuitAt t i))
+length-effect t e Clock = length-sweep t e (length t / 32)
+
+pub length-after : (t e : List ℕ) → length (after records t e) ≡ length t
+unfolding after records
+length-after t e = length-effect t (eventAt e) (decide records t (eventAt e))

@@ -1,0 +1,116 @@
+-- What the tests of the rules, and the choice, say in plain words.
+use Prim.Native.Nat.{ℕ, _<_}
+use mathlib.Core.Path.{_≡_, sym, ap, _∙_, subst}
+use mathlib.Core.Logic.{⊎-elim, _≢_, _⊎_, inl, inr}
+use mathlib.Core.Bool.{Bool, true, false, _&&_, not, true≢false}
+use mathlib.Core.List.{List}
+use native.Mathlib.Omega.{arith}
+use lib.Dec.{ltb}
+use borrow.Author.Tests.{not-true, ltb-true, lt-ltb}
+use Rattle.octets.specs.Same.{same}
+use Rattle.octets.proofs.Tests.{and-left, and-right, and-both, not-so}
+use Rattle.octets.proofs.Sames.{same-true, same-refl}
+use Rattle.rules.specs.declared.mark.Mark.{Mark}
+use Rattle.rules.specs.declared.part.Part.{Part}
+use Rattle.rules.specs.declared.circuit.Circuit.{Circuit}
+use Rattle.rules.specs.declared.search.Found.the-variants.{At, Nothing}
+use Rattle.rules.specs.Circuit.{isOf, standing, free, outranks, takeable}
+use Rattle.rules.proofs.Choice.{ChoiceIs, Rather as RatherTaken}
+use Rattle.claims.specs.Chosen.{Free, Lower, Rather, lower-precedence, no-holder, lower-number, NoneFree, NoneLower, FirstFree, Lowest}
+use Rattle.claims.specs.Demand.{StandsIn}
+
+-- ---- a call in a part
+module _ (r : List ℕ) (p : Part) where
+  pub stands-in : isOf r p ≡ true → StandsIn r p
+  stands-in h = (and-left (p .present) (same (p .reference) r) h, same-true (p .reference) r (and-right (p .present) (same (p .reference) r) h))
+
+  pub in-stands : StandsIn r p → isOf r p ≡ true
+  in-stands h = and-both (p .present) (same (p .reference) r) (h .0) (ap (same (p .reference)) (sym (h .1)) ∙ same-refl (p .reference))
+
+  pub not-in : (StandsIn r p → ⊥) → isOf r p ≡ false
+  not-in f = not-so (isOf r p) (λ h. f (stands-in h))
+
+-- ---- a circuit
+module _ (y : Circuit) where
+  free-so : free y ≡ true → Free y
+  free-so h =
+      let a = y .holder .present in
+      let b = y .reservation .present in
+      (not-true a (and-left (not a) (not b) h), not-true b (and-right (not a) (not b) h))
+
+  so-free : Free y → free y ≡ true
+  so-free h = λ d. not (h .0 d) && not (h .1 d)
+
+  not-free : free y ≡ false → Free y → ⊥
+  not-free h f = true≢false (sym (so-free f) ∙ h)
+
+module _ (m : Mark) (y : Circuit) where
+  abbrev domains : Bool
+  domains = same (m .domain) (standing y .domain)
+
+  abbrev levels : Bool
+  levels = ltb (m .level .0) (standing y .level .0)
+
+  pub lower-so : takeable m y ≡ true → Lower m y
+  unfolding takeable
+  lower-so h =
+      let o = and-right (not (free y)) (outranks m (standing y)) h in
+      record {
+        taken = not-free y (not-true (free y) (and-left (not (free y)) (outranks m (standing y)) h));
+        domain = sym (same-true (m .domain) (standing y .domain) (and-left domains levels o));
+        level = ltb-true (m .level .0) (standing y .level .0) (and-right domains levels o);
+      }
+
+  so-lower : Lower m y → takeable m y ≡ true
+  unfolding takeable
+  so-lower h =
+      and-both (not (free y)) (outranks m (standing y)) (ap not (not-so (free y) (λ f. h .taken (free-so y f))))
+      (and-both domains levels (ap (same (m .domain)) (h .domain) ∙ same-refl (m .domain)) (lt-ltb (m .level .0) (standing y .level .0) (h .level)))
+
+  not-lower : takeable m y ≡ false → Lower m y → ⊥
+  not-lower h l = true≢false (sym (so-lower l) ∙ h)
+
+rather : (y z : Circuit) (i j : ℕ) → j ≢ i → RatherTaken y i z j → Rather i y j z
+rather y z i j ne (inl l) = lower-precedence l
+rather y z i j ne (inr h) =
+    ⊎-elim (λ b. no-holder (h .0) (b .0) (b .1)) (λ b. let l = b .1 in lower-number (h .0) (b .0) (omega arith)) (h .1)
+
+-- ---- the choice, made over circuits x that show themselves as y
+module _ (x y : ℕ → Circuit) (n : ℕ) (q : (c : ℕ) → c < n → x c ≡ y c) (m : Mark) where
+  pub none-chosen : ChoiceIs x n m Nothing → NoneFree y n × NoneLower y n m
+  none-chosen h = (
+    λ c l f. not-free (x c) (h c l .0) (subst Free (sym (q c l)) f),
+    λ c l f. not-lower m (x c) (h c l .1) (subst (Lower m) (sym (q c l)) f),
+  )
+
+  pub one-chosen : (i : ℕ) → ChoiceIs x n m (At i) → FirstFree y n i ⊎ Lowest y n m i
+  one-chosen i h = ⊎-elim (λ f. inl (free-one f)) (λ f. inr (lowest-one f)) (h .1)
+    where
+      here : i < n
+      here = h .0
+
+      free-one : (free (x i) ≡ true) × ((j : ℕ) → j < i → free (x j) ≡ false) → FirstFree y n i
+      free-one f =
+          record {
+            there = here;
+            free = subst Free (q i here) (free-so (x i) (f .0));
+            first = λ j l g. not-free (x j) (f .1 j l) (subst Free (sym (q j (omega arith))) g);
+          }
+
+      lowest-one : ((j : ℕ) → j < n → free (x j) ≡ false) × (takeable m (x i) ≡ true) × ((j : ℕ) → j < n → takeable m (x j) ≡ true → RatherTaken (x i) i (x j) j) → Lowest y n m i
+      lowest-one f =
+          record {
+            there = here;
+            none-free = λ c l g. not-free (x c) (f .0 c l) (subst Free (sym (q c l)) g);
+            lower = subst (Lower m) (q i here) (lower-so m (x i) (f .1));
+            rather =
+                λ j l ne g.
+                subst (λ (z : Circuit). Rather i z j (y j)) (q i here)
+                (subst (λ (z : Circuit). Rather i (x i) j z) (q j l)
+                (rather (x i) (x j) i j ne (f .2 j l (so-lower m (x j) (subst (Lower m) (sym (q j l)) g)))));
+          }
+
+  -- not both
+  pub chosen-not-none : (i : ℕ) → FirstFree y n i ⊎ Lowest y n m i → NoneFree y n × NoneLower y n m → ⊥
+  chosen-not-none i (inl f) g = g .0 i (f .there) (f .free)
+  chosen-not-none i (inr f) g = g .1 i (f .there) (f .lower)

@@ -1,0 +1,66 @@
+-- A past that led from one table to another: its parts, and what the table shows in the end.
+use Prim.Native.Nat.{ℕ, _/_, _<_}
+use mathlib.Core.Path.{_≡_, refl, sym, ap, ap₂, _∙_, subst}
+use mathlib.Core.Bool.{true}
+use mathlib.Core.List.{List, [], _∷_, _++_}
+use lib.ListN.{length}
+use Rattle.rules.specs.declared.circuit.Circuit.{Circuit}
+use Rattle.rules.specs.Valid.{valid}
+use Rattle.rules.specs.Run.{after, answered, answer}
+use Rattle.rules.specs.Records.{circuitAt, eventAt, records}
+use Rattle.rules.proofs.Records.{lawful}
+use Rattle.rules.proofs.Kept.{after-valid}
+use Rattle.claims.specs.History.{Exchange, answerNumber, answerPlace, told, heard, historyFrom}
+use Rattle.claims.proofs.Heard.{view-told}
+use Rattle.claims.proofs.Octets.{answer-number, answer-place, length-after}
+
+-- each event of the past, applied to the table before it, is answered as the past says; so t becomes u
+abbrev pub Ran : List ℕ → List Exchange → List ℕ → Type 0
+Ran t [] u = t ≡ u
+Ran t (p ∷ ps) u = (p .answer ≡ answer records t (p .event)) × Ran (after records t (p .event)) ps u
+
+pub ran-append : (ps qs : List Exchange) (t u v : List ℕ) → Ran t ps u → Ran u qs v → Ran t (ps ++ qs) v
+ran-append [] qs t u v h g = subst (λ (w : List ℕ). Ran w qs v) (sym h) g
+ran-append (p ∷ ps) qs t u v h g = (h .0, ran-append ps qs (after records t (p .event)) u v (h .1) g)
+
+-- a past taken apart at one exchange: table s stood before it
+pub record Around (t : List ℕ) (before : List Exchange) (p : Exchange) (later : List Exchange) (u : List ℕ) : Type 0 where
+  pub table : List ℕ
+  pub earlier : Ran t before table
+  pub answer : p .answer ≡ answer records table (p .event)
+  pub rest : Ran (after records table (p .event)) later u
+
+pub ran-around : (before : List Exchange) (t : List ℕ) (p : Exchange) (later : List Exchange) (u : List ℕ) → Ran t (before ++ p ∷ later) u → Around t before p later u
+ran-around [] t p later u h = record { table = t; earlier = refl; answer = h .0; rest = h .1 }
+ran-around (q ∷ qs) t p later u h =
+    let r = ran-around qs (after records t (q .event)) p later u (h .1) in
+    record { table = r .table; earlier = (h .0, r .earlier); answer = r .answer; rest = r .rest }
+
+-- ---- one exchange
+module _ (t : List ℕ) (v : valid records t ≡ true) (p : Exchange) (a : p .answer ≡ answer records t (p .event)) where
+  pub view-heard : (c : ℕ) → c < length t / 32 → circuitAt (after records t (p .event)) c ≡ heard p c (circuitAt t c)
+  unfolding records
+  view-heard c l =
+      view-told records lawful t (p .event) v c l
+      ∙ ap₂ (λ (k i : ℕ). told (eventAt (p .event)) k i c (circuitAt t c)) (sym (ap answerNumber a ∙ answer-number t (p .event))) (sym (ap answerPlace a ∙ answer-place t (p .event)))
+
+-- ---- all of them: from any valid table, what the table shows is what the history tells
+pub record Shown (t : List ℕ) (ps : List Exchange) (u : List ℕ) : Type 0 where
+  pub still-valid : valid records u ≡ true
+  pub as-long : length u ≡ length t
+  pub tells : (c : ℕ) → c < length t / 32 → circuitAt u c ≡ historyFrom (circuitAt t c) ps c
+
+pub shown : (ps : List Exchange) (t u : List ℕ) → valid records t ≡ true → Ran t ps u → Shown t ps u
+shown [] t u v h =
+    record { still-valid = ap (valid records) (sym h) ∙ v; as-long = ap length (sym h); tells = λ c l. ap (λ (w : List ℕ). circuitAt w c) (sym h) }
+shown (p ∷ ps) t u v h =
+    let s = after records t (p .event) in
+    let long = length-after t (p .event) in
+    let r = shown ps s u (after-valid records lawful t (p .event) v) (h .1) in
+    record {
+      still-valid = r .still-valid;
+      as-long = r .as-long ∙ long;
+      tells =
+          λ c l.
+          r .tells c (subst (λ (n : ℕ). c < n / 32) (sym long) l) ∙ ap (λ (y : Circuit). historyFrom y ps c) (view-heard t v p (h .0) c l);
+    }

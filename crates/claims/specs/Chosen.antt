@@ -1,0 +1,46 @@
+-- 01, "Rules of choice", in plain words and not through the search that computes it: x c is what the history shows of circuit c, and there are n circuits.
+use Prim.Native.Nat.{ℕ, _<_}
+use mathlib.Core.Path.{_≡_}
+use mathlib.Core.Logic.{_≢_}
+use mathlib.Core.Bool.{true, false}
+use Rattle.rules.specs.declared.mark.Mark.{Mark}
+use Rattle.rules.specs.declared.circuit.Circuit.{Circuit}
+use Rattle.rules.specs.Circuit.{standing}
+
+abbrev pub Free : Circuit → Type 0  -- a circuit is free if it has neither part
+Free y = (y .holder .present ≡ false) × (y .reservation .present ≡ false)
+
+-- circuit y stands under a strictly lower precedence than mark m in the same domain: the level of its standing mark has the greater number
+pub record Lower (m : Mark) (y : Circuit) : Type 0 where
+  pub taken : Free y → ⊥
+  pub domain : standing y .domain ≡ m .domain
+  pub level : m .level .0 < standing y .level .0
+
+-- circuit i, which is y, is taken rather than circuit j, which is z
+pub data Rather (i : ℕ) (y : Circuit) (j : ℕ) (z : Circuit) : Type 0 where
+  -- the greatest level number
+  lower-precedence : standing z .level .0 < standing y .level .0 → Rather i y j z
+  -- at equal level one with no holder before one with a holder
+  no-holder : standing y .level .0 ≡ standing z .level .0 → y .holder .present ≡ false → z .holder .present ≡ true → Rather i y j z
+  -- then the lowest number
+  lower-number : standing y .level .0 ≡ standing z .level .0 → y .holder .present ≡ z .holder .present → i < j → Rather i y j z
+
+module _ (x : ℕ → Circuit) (n : ℕ) where
+  abbrev pub NoneFree : Type 0
+  NoneFree = (c : ℕ) → c < n → Free (x c) → ⊥
+
+  abbrev pub NoneLower : Mark → Type 0
+  NoneLower m = (c : ℕ) → c < n → Lower m (x c) → ⊥
+
+  -- circuit i is the first free one
+  pub record FirstFree (i : ℕ) : Type 0 where
+    pub there : i < n
+    pub free : Free (x i)
+    pub first : (j : ℕ) → j < i → Free (x j) → ⊥
+
+  -- none is free, and circuit i is the one of lowest precedence, by 01's tie rule
+  pub record Lowest (m : Mark) (i : ℕ) : Type 0 where
+    pub there : i < n
+    pub none-free : NoneFree
+    pub lower : Lower m (x i)
+    pub rather : (j : ℕ) → j < n → j ≢ i → Lower m (x j) → Rather i (x i) j (x j)

@@ -1,0 +1,89 @@
+-- The customer's demand 3: "From an empty table of 1 to 256 circuits, after any lists of events, refused ones too: who holds and who has reserved each circuit follows from the past events and answers alone; a well-formed set-up whose reference holds and reserves nothing is refused for want of a circuit exactly if none is free and none stands under a strictly lower precedence in the same domain; else it gets the first free one, failing that the lowest-precedence one by 01's tie rule, and the losers named are exactly those the history shows there."
+use Prim.Native.Nat.{ℕ, _/_, _%_, _<_, _≤_}
+use mathlib.Core.Path.{_≡_}
+use mathlib.Core.Logic.{_↔_, _≢_, _⊎_}
+use mathlib.Core.Bool.{true, cond, _||_}
+use mathlib.Core.List.{List, [], _∷_, _++_}
+use lib.ListN.{length, replicate}
+use Rattle.rules.specs.declared.mark.Mark.{Mark}
+use Rattle.rules.specs.declared.part.Part.{Part}
+use Rattle.rules.specs.declared.circuit.Circuit.{Circuit}
+use Rattle.rules.specs.declared.event.Event.{Event}
+use Rattle.rules.specs.Circuit.{isRoutine, nobody, party}
+use Rattle.rules.specs.Event.{wellFormed}
+use Rattle.rules.specs.Records.{circuitAt, eventAt}
+use Rattle.route.specs.Entries.{listAnswers}
+use Rattle.claims.specs.History.{Exchange, answerNumber, history}
+use Rattle.claims.specs.Calls.{Call, emptyTable, tableAfter, past}
+use Rattle.claims.specs.Chosen.{NoneFree, NoneLower, FirstFree, Lowest}
+
+-- "Who holds and who has reserved each circuit follows from the past events and answers alone": what the table shows of a circuit,
+-- under which mark and since which clock, is what the history says
+abbrev pub HistoryTells : Type 0
+HistoryTells =
+    (n : ℕ) (calls : List Call) (c : ℕ) → c < n → circuitAt (tableAfter (emptyTable n) calls) c ≡ history (past (emptyTable n) calls) c
+
+abbrev pub StandsIn : List ℕ → Part → Type 0  -- the call with reference r stands in this part
+StandsIn r p = (p .present ≡ true) × (p .reference ≡ r)
+
+-- "a well-formed set-up whose reference holds and reserves nothing", where x c is what the history shows of circuit c
+pub record NewSetUp (n : ℕ) (x : ℕ → Circuit) (e : Event) : Type 0 where
+  pub well-formed : wellFormed e ≡ true
+  pub set-up : e .kind ≡ 1
+  pub holds-nothing : (c : ℕ) → c < n → StandsIn (e .reference) (x c .holder) → ⊥
+  pub reserves-nothing : (c : ℕ) → c < n → StandsIn (e .reference) (x c .reservation) → ⊥
+
+-- "refused for want of a circuit": answered by 30 or 31
+abbrev pub ForWant : List ℕ → Type 0
+ForWant a = (answerNumber a ≡ 30) ⊎ (answerNumber a ≡ 31)
+
+-- the whole answer then: ROUTINE 30 with cause 34, others 31 with cause 46; 65535; zeros
+abbrev pub wantOctets : Mark → List ℕ
+wantOctets m = cond (isRoutine (m .level)) (30 ∷ 34 ∷ []) (31 ∷ 46 ∷ []) ++ 255 ∷ 255 ∷ replicate 12 0
+
+-- a loser in an answer: 1 and its reference where a party stands, zeros where none does
+abbrev pub loserOctets : Part → List ℕ
+loserOctets p = cond (p .present) (1 ∷ p .reference) (replicate 6 0)
+
+-- the whole answer to a call that gets circuit i, which was y: 2 if anybody stood there, else 1; no cause; the circuit; the losers
+abbrev pub seizedOctets : ℕ → Circuit → List ℕ
+seizedOctets i y =
+    cond (y .holder .present || y .reservation .present) 2 1 ∷ 0 ∷ i % 256 ∷ i / 256 ∷ loserOctets (y .holder) ++ loserOctets (y .reservation)
+
+-- event e gets a circuit by answer a; what the history shows was x and is y afterwards
+pub record Gets (n : ℕ) (x y : ℕ → Circuit) (e : Event) (a : List ℕ) : Type 0 where
+  pub circuit : ℕ
+  -- "it gets the first free one, failing that the lowest-precedence one by 01's tie rule"
+  pub chosen : FirstFree x n circuit ⊎ Lowest x n (e .mark) circuit
+  -- "the losers named are exactly those the history shows there"
+  pub answer : a ≡ seizedOctets circuit (x circuit)
+  -- the circuit then holds the call with no reservation, and the others are as they were
+  pub holds : y circuit ≡ record { holder = party e; reservation = nobody; clock = 0 }
+  pub others : (c : ℕ) → c < n → c ≢ circuit → y c ≡ x c
+
+-- what demand 3 says of the answer a to event e
+pub record Answered (n : ℕ) (x y : ℕ → Circuit) (e : Event) (a : List ℕ) : Type 0 where
+  -- "is refused for want of a circuit exactly if none is free and none stands under a strictly lower precedence in the same domain"
+  pub exactly : ForWant a ↔ (NoneFree x n × NoneLower x n (e .mark))
+  -- the answer is then whole, and the history shows what it showed
+  pub refused : ForWant a → (a ≡ wantOctets (e .mark)) × ((c : ℕ) → c < n → y c ≡ x c)
+  -- "else it gets .."
+  pub otherwise : (ForWant a → ⊥) → Gets n x y e a
+
+-- DEMAND 3: after any calls of the list entry, a set-up given to it as a list of one event
+abbrev pub Demand3 : Type 0
+Demand3 =
+    (n : ℕ) → 1 ≤ n → n ≤ 256
+    → (calls : List Call) (e place : List ℕ) → length e ≡ 16 → length place ≡ 16
+    → NewSetUp n (history (past (emptyTable n) calls)) (eventAt e)
+    → Answered n (history (past (emptyTable n) calls))
+    (history (past (emptyTable n) (calls ++ record { events = e; places = place } ∷ [])))
+    (eventAt e) (listAnswers (tableAfter (emptyTable n) calls) e place)
+
+-- the same of a set-up at any place of any list: before and later are the rest of the past
+abbrev pub Demand3Within : Type 0
+Demand3Within =
+    (n : ℕ) (calls : List Call) (before : List Exchange) (p : Exchange) (later : List Exchange)
+    → past (emptyTable n) calls ≡ before ++ p ∷ later
+    → NewSetUp n (history before) (eventAt (p .event))
+    → Answered n (history before) (history (before ++ p ∷ [])) (eventAt (p .event)) (p .answer)

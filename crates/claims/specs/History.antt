@@ -1,0 +1,50 @@
+-- The history: who holds and who has reserved each circuit, under which mark and since which clock, from the past events and their answers alone. It looks at no table.
+use Prim.Native.Nat.{ℕ}
+use mathlib.Core.Bool.{cond, _||_}
+use mathlib.Core.List.{List, [], _∷_}
+use lib.ListN.{getD}
+use lib.Dec.{eqb}
+use Rattle.octets.specs.Span.{number}
+use Rattle.rules.specs.declared.circuit.Circuit.{Circuit}
+use Rattle.rules.specs.declared.event.Event.{Event}
+use Rattle.rules.specs.declared.outcome.Act.the-variants.{Seize, Reserve, Release, Cancel}
+use Rattle.rules.specs.Circuit.{nobody, overdue, made}
+use Rattle.rules.specs.Records.{eventAt}
+
+-- an event and the answer that was given to it, 16 octets each
+pub record Exchange : Type 0 where
+  pub event : List ℕ
+  pub answer : List ℕ
+
+abbrev pub answerNumber : List ℕ → ℕ  -- an answer's octet 0: its number
+answerNumber a = getD a 0 0
+
+abbrev pub answerPlace : List ℕ → ℕ  -- its octets 2-3: the circuit that it names
+answerPlace a = number a 2 2
+
+-- what event e, answered by number k, makes of the circuit y that the answer names: it is seized, reserved, released, cancelled,
+-- or as it was
+unfoldable pub named : Event → ℕ → Circuit → Circuit
+named e k y =
+    cond (eqb k 1 || eqb k 2) (made e Seize y)
+    (cond (eqb k 3 || eqb k 4) (made e Reserve y)
+    (cond (eqb k 5) (made e Release y) (cond (eqb k 6) (made e Cancel y) y)))
+
+-- what circuit c, which was y, is after event e was answered by number k and named circuit i: a clock event that was taken removes
+-- what is overdue, and any other answer speaks of the circuit that it names
+unfoldable pub told : Event → ℕ → ℕ → ℕ → Circuit → Circuit
+told e k i c y = cond (eqb k 7) (cond (overdue (e .clock) y) (made e Cancel y) y) (cond (eqb i c) (named e k y) y)
+
+abbrev pub heard : Exchange → ℕ → Circuit → Circuit  -- the same, read from the octets
+heard p c y = told (eventAt (p .event)) (answerNumber (p .answer)) (answerPlace (p .answer)) c y
+
+-- circuit c after these exchanges, the oldest first, if it was y before them
+abbrev pub historyFrom : Circuit → List Exchange → ℕ → Circuit
+historyFrom y [] c = y
+historyFrom y (p ∷ ps) c = historyFrom (heard p c y) ps c
+
+abbrev pub empty : Circuit  -- nobody holds it, and nobody has reserved it
+empty = record { holder = nobody; reservation = nobody; clock = 0 }
+
+abbrev pub history : List Exchange → ℕ → Circuit  -- circuit c, by all that ever was asked and answered
+history ps c = historyFrom empty ps c
