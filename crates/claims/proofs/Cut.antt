@@ -11,7 +11,7 @@ use lib.Dec.{eqb}
 use Rattle.octets.specs.Span.{span}
 use Rattle.octets.proofs.Spans.{grow, span-cong, span-all}
 use Rattle.rules.specs.Numbers.{lengthWrong}
-use Rattle.rules.specs.Run.{after, answer, run, answers}
+use Rattle.rules.specs.Run.{answer, run, answers}
 use Rattle.rules.specs.Records.{records}
 use Rattle.rules.proofs.Kept.{run-append, answers-append}
 use Rattle.route.specs.Entries.{eventsTo, eventsIn, listLengths, listNumber, listTable, listAnswers}

@@ -7,7 +7,6 @@ use native.Mathlib.Omega.{arith}
 use lib.ListN.{length, length-replicate}
 use lib.Dec.{eqb, leb}
 use borrow.Author.Tests.{eq-eqb, le-leb}
-use Rattle.octets.specs.Span.{span}
 use Rattle.octets.proofs.Tests.{and-both}
 use Rattle.octets.proofs.Spans.{span-all}
 use Rattle.rules.specs.declared.circuit.Circuit.{Circuit}
@@ -15,11 +14,11 @@ use Rattle.rules.specs.Valid.{valid}
 use Rattle.rules.specs.Numbers.{lengthWrong}
 use Rattle.rules.specs.Run.{answer}
 use Rattle.rules.specs.Records.{circuitAt, eventAt, records, tableLength, listLength}
-use Rattle.route.specs.Entries.{listLengths, listNumber, listTable, listAnswers}
+use Rattle.route.specs.Entries.{listLengths, listNumber, listAnswers}
 use Rattle.claims.specs.History.{Exchange, empty, heard, historyFrom, history}
 use Rattle.claims.specs.Calls.{Call, emptyTable, exchangesTo, exchanges, tableAfter, past}
 use Rattle.claims.specs.Demand.{HistoryTells, NewSetUp, Answered, Demand3, Demand3Within}
-use Rattle.claims.proofs.Ran.{Ran, Around, ran-around, Shown, shown}
+use Rattle.claims.proofs.Ran.{Ran, ran-around, Shown, shown}
 use Rattle.claims.proofs.Cut.{past-ran, length-left, past-append}
 use Rattle.claims.proofs.Start.{circuit-empty, start-valid}
 use Rattle.claims.proofs.Served.{served}
@@ -80,15 +79,17 @@ module _ (t e place : List ℕ) (sixteen : length e ≡ 16) where
       }
       ∷ [])
 
--- the lengths of a table of n circuits and of one event
-pub one-lengths : (t e place : List ℕ) (n : ℕ) → length t ≡ 32 * n → 1 ≤ n → n ≤ 256 → length e ≡ 16 → length place ≡ 16 → listLengths t e place ≡ true
-unfolding listLengths tableLength listLength
-one-lengths t e place n long one many sixteen room =
-    and-both (tableLength (length t)) (listLength (length e) (length place))
-    (and-both (eqb (length t % 32) 0) (leb 1 (length t / 32) && leb (length t / 32) 256) (eq-eqb (length t % 32) 0 (omega arith))
-    (and-both (leb 1 (length t / 32)) (leb (length t / 32) 256) (le-leb 1 (length t / 32) (omega arith)) (le-leb (length t / 32) 256 (omega arith))))
-    (and-both (eqb (length e % 16) 0) (leb (length e / 16) 4096 && eqb (length place) (length e)) (eq-eqb (length e % 16) 0 (omega arith))
-    (and-both (leb (length e / 16) 4096) (eqb (length place) (length e)) (le-leb (length e / 16) 4096 (omega arith)) (eq-eqb (length place) (length e) (omega arith))))
+-- the lengths of a table of n circuits, and of one event
+pub table-length : (t : List ℕ) (n : ℕ) → length t ≡ 32 * n → 1 ≤ n → n ≤ 256 → tableLength (length t) ≡ true
+unfolding tableLength
+table-length t n long one many =
+    and-both (eqb (length t % 32) 0) (leb 1 (length t / 32) && leb (length t / 32) 256) (eq-eqb (length t % 32) 0 (omega arith))
+    (and-both (leb 1 (length t / 32)) (leb (length t / 32) 256) (le-leb 1 (length t / 32) (omega arith)) (le-leb (length t / 32) 256 (omega arith)))
+
+one-lengths : (t e place : List ℕ) → tableLength (length t) ≡ true → length e ≡ 16 → length place ≡ 16 → listLengths t e place ≡ true
+unfolding listLengths listLength
+one-lengths t e place right sixteen room =
+    and-both (tableLength (length t)) (listLength (length e) (length place)) right (ap₂ listLength sixteen room)
 
 pub demand-3 : Demand3
 demand-3 n one many calls e place sixteen room new =
@@ -96,7 +97,7 @@ demand-3 n one many calls e place sixteen room new =
     let u = tableAfter t calls in
     let k : Call = record { events = e; places = place } in
     let p : Exchange = record { event = e; answer = listAnswers u e place } in
-    let lengths = one-lengths u e place n (now-long n (past t calls) u (past-ran calls t)) one many sixteen room in
+    let lengths = one-lengths u e place (table-length u n (now-long n (past t calls) u (past-ran calls t)) one many) sixteen room in
     let split : past t (calls ++ k ∷ []) ≡ past t calls ++ p ∷ [] = past-append calls (k ∷ []) t ∙ ap (λ (ps : List Exchange). past t calls ++ ps) (append-nil (exchanges u k) ∙ one-exchange u e place sixteen lengths) in
     subst (λ (ps : List Exchange). Answered n (history (past t calls)) (history ps) (eventAt e) (listAnswers u e place)) (sym split)
     (demand-3-within n (calls ++ k ∷ []) (past t calls) p [] split new)

@@ -6,3 +6,11 @@ pub mod Start
 pub mod Plain
 pub mod Served
 pub mod Demanded
+pub mod Instanced
+pub mod Reasons
+pub mod Refused
+pub mod Marks
+pub mod Twice
+pub mod Reservations
+pub mod Alone
+pub mod Checked

@@ -1,8 +1,7 @@
 -- What is read from the octets of an answer, and how many octets one event leaves.
 use Prim.Native.Nat.{ℕ, zero, suc, _/_}
-use mathlib.Core.Path.{_≡_, refl, ap, _∙_}
-use mathlib.Core.Bool.{Bool, cond}
-use mathlib.Core.List.{List}
+use mathlib.Core.Path.{_≡_, refl, _∙_}
+use mathlib.Core.List.{List, [], _∷_}
 use lib.ListN.{length}
 use Rattle.octets.proofs.Tests.{by-test}
 use Rattle.octets.proofs.Width.{value-octets}
@@ -13,7 +12,7 @@ use Rattle.rules.specs.declared.outcome.Act.the-variants.{Cancel}
 use Rattle.rules.specs.declared.outcome.Outcome.{Outcome}
 use Rattle.rules.specs.declared.outcome.Outcome.the-variants.{Refuse, Do, Clock}
 use Rattle.rules.specs.Circuit.{overdue, made}
-use Rattle.rules.specs.Run.{decide, sweepTo, effect, after, answered, answer}
+use Rattle.rules.specs.Run.{decide, sweepTo, effect, after, answered, answer, run}
 use Rattle.rules.specs.Records.{circuitAt, circuitOctets, putCircuit, eventAt, records}
 use Rattle.claims.specs.History.{answerNumber, answerPlace}
 
@@ -51,3 +50,7 @@ length-effect t e Clock = length-sweep t e (length t / 32)
 pub length-after : (t e : List ℕ) → length (after records t e) ≡ length t
 unfolding after records
 length-after t e = length-effect t (eventAt e) (decide records t (eventAt e))
+
+pub length-run : (es : List (List ℕ)) (t : List ℕ) → length (run records t es) ≡ length t
+length-run [] t = refl
+length-run (e ∷ es) t = length-run es (after records t e) ∙ length-after t e

@@ -32,7 +32,7 @@ module _ (r : List ℕ) (p : Part) where
 
 -- ---- a circuit
 module _ (y : Circuit) where
-  free-so : free y ≡ true → Free y
+  pub free-so : free y ≡ true → Free y
   free-so h =
       let a = y .holder .present in
       let b = y .reservation .present in

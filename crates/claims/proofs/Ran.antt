@@ -37,12 +37,14 @@ ran-around (q ∷ qs) t p later u h =
     record { table = r .table; earlier = (h .0, r .earlier); answer = r .answer; rest = r .rest }
 
 -- ---- one exchange
-module _ (t : List ℕ) (v : valid records t ≡ true) (p : Exchange) (a : p .answer ≡ answer records t (p .event)) where
-  pub view-heard : (c : ℕ) → c < length t / 32 → circuitAt (after records t (p .event)) c ≡ heard p c (circuitAt t c)
+module _ (t : List ℕ) (p : Exchange) (a : p .answer ≡ answer records t (p .event)) (c : ℕ) where
+  pub heard-answered : (y : Circuit) → heard p c y ≡ told (eventAt (p .event)) (answered records t (p .event) .number) (answered records t (p .event) .place) c y
+  heard-answered y =
+      ap₂ (λ (k i : ℕ). told (eventAt (p .event)) k i c y) (ap answerNumber a ∙ answer-number t (p .event)) (ap answerPlace a ∙ answer-place t (p .event))
+
+  view-heard : valid records t ≡ true → c < length t / 32 → circuitAt (after records t (p .event)) c ≡ heard p c (circuitAt t c)
   unfolding records
-  view-heard c l =
-      view-told records lawful t (p .event) v c l
-      ∙ ap₂ (λ (k i : ℕ). told (eventAt (p .event)) k i c (circuitAt t c)) (sym (ap answerNumber a ∙ answer-number t (p .event))) (sym (ap answerPlace a ∙ answer-place t (p .event)))
+  view-heard v l = view-told records lawful t (p .event) v c l ∙ sym (heard-answered (circuitAt t c))
 
 -- ---- all of them: from any valid table, what the table shows is what the history tells
 pub record Shown (t : List ℕ) (ps : List Exchange) (u : List ℕ) : Type 0 where
@@ -62,5 +64,5 @@ shown (p ∷ ps) t u v h =
       as-long = r .as-long ∙ long;
       tells =
           λ c l.
-          r .tells c (subst (λ (n : ℕ). c < n / 32) (sym long) l) ∙ ap (λ (y : Circuit). historyFrom y ps c) (view-heard t v p (h .0) c l);
+          r .tells c (subst (λ (n : ℕ). c < n / 32) (sym long) l) ∙ ap (λ (y : Circuit). historyFrom y ps c) (view-heard t p (h .0) c v l);
     }

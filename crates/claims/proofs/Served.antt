@@ -1,7 +1,7 @@
 -- Demand 3 of one set-up: from any valid table, if circuit by circuit it shows what the history says.
 use Prim.Native.Nat.{ℕ, _+_, _*_, _/_, _%_, _<_}
 use mathlib.Core.Path.{_≡_, refl, sym, ap, ap₂, _∙_, subst}
-use mathlib.Core.Logic.{_≢_, _⊎_, inl, inr}
+use mathlib.Core.Logic.{_⊎_, inl, inr}
 use mathlib.Core.Bool.{Bool, true, false, cond, _||_}
 use mathlib.Core.List.{List, [], _∷_, _++_}
 use native.Mathlib.Omega.{arith}
@@ -35,7 +35,7 @@ use Rattle.rules.proofs.Searches.{first-none}
 use Rattle.rules.proofs.Choice.{ChoiceIs, choice-is}
 use Rattle.rules.proofs.Faults.{valid-facts}
 use Rattle.claims.specs.History.{Exchange, answerNumber, answerPlace, told, heard}
-use Rattle.claims.specs.Demand.{StandsIn, NewSetUp, ForWant, wantOctets, loserOctets, seizedOctets, Gets, Answered}
+use Rattle.claims.specs.Demand.{StandsIn, NewSetUp, ForWant, wantOctets, loserOctets, seizedOctets, Answered}
 use Rattle.claims.proofs.Heard.{told-refused, told-seized}
 use Rattle.claims.proofs.Plain.{not-in, none-chosen, one-chosen, chosen-not-none}
 

@@ -1,0 +1,76 @@
+-- The customer's two accidents, which cannot happen: a mark left on a circuit whose party is gone, and a reservation gone for no reason; and no call in two places.
+use Prim.Native.Nat.{ℕ, _+_, _*_, _-_, _%_, _<_, _≤_}
+use mathlib.Core.Path.{_≡_}
+use mathlib.Core.Logic.{_⊎_}
+use mathlib.Core.Bool.{true, false}
+use mathlib.Core.List.{List, [], _∷_, _++_}
+use lib.ListN.{replicate}
+use Rattle.octets.specs.Span.{span}
+use Rattle.rules.specs.declared.circuit.Circuit.{Circuit}
+use Rattle.rules.specs.Records.{circuitAt, eventAt}
+use Rattle.claims.specs.History.{Exchange, answerNumber, answerPlace, history}
+use Rattle.claims.specs.Calls.{Call, emptyTable, tableAfter, past}
+use Rattle.claims.specs.Demand.{StandsIn}
+
+-- record c of table t, where the history shows circuit y
+pub record OnlyWithParty (t : List ℕ) (c : ℕ) (y : Circuit) : Type 0 where
+  -- each party on record, its mark and its reference, is the one that the history shows
+  pub shows : circuitAt t c ≡ y
+  -- where it shows no holder, every octet of the holder's part is zero; where it shows no reservation, every one of the reservation's
+  pub no-holder : y .holder .present ≡ false → span t (32 * c) 12 ≡ replicate 12 0
+  pub no-reservation : y .reservation .present ≡ false → span t (32 * c + 12) 16 ≡ replicate 16 0
+
+-- THE FIRST ACCIDENT: "a mark stands on a circuit only while the history shows its party there"
+abbrev pub NoMarkLeft : Type 0
+NoMarkLeft =
+    (n : ℕ) (calls : List Call) (c : ℕ) → c < n → OnlyWithParty (tableAfter (emptyTable n) calls) c (history (past (emptyTable n) calls) c)
+
+-- exchange p takes the reservation of circuit c, which is y, away
+pub data Goes (c : ℕ) (y : Circuit) (p : Exchange) : Type 0 where
+  -- its own set-up: the call then holds the circuit
+  own-set-up : eventAt (p .event) .kind ≡ 1
+      → StandsIn (eventAt (p .event) .reference) (y .reservation)
+      → (answerNumber (p .answer) ≡ 1) ⊎ (answerNumber (p .answer) ≡ 2)
+      → answerPlace (p .answer) ≡ c
+      → Goes c y p
+  -- its cancel
+  cancelled : eventAt (p .event) .kind ≡ 4
+      → StandsIn (eventAt (p .event) .reference) (y .reservation)
+      → answerNumber (p .answer) ≡ 6
+      → answerPlace (p .answer) ≡ c
+      → Goes c y p
+  -- a set-up or look-ahead of a strictly higher call in the same domain, whose answer names it
+  higher-call : (eventAt (p .event) .kind ≡ 1) ⊎ (eventAt (p .event) .kind ≡ 3)
+      → eventAt (p .event) .mark .domain ≡ y .reservation .mark .domain
+      → eventAt (p .event) .mark .level .0 < y .reservation .mark .level .0
+      → answerPlace (p .answer) ≡ c
+      → span (p .answer) 10 6 ≡ 1 ∷ y .reservation .reference
+      → Goes c y p
+  -- a clock event: the clock less its stored clock, modulo 4,294,967,296, is 3,000 or more
+  overdue : eventAt (p .event) .kind ≡ 5
+      → 3000 ≤ (eventAt (p .event) .clock + 4294967296 - y .clock) % 4294967296
+      → answerNumber (p .answer) ≡ 7
+      → Goes c y p
+
+abbrev pub Stays : Circuit → Circuit → Type 0  -- the same party has it reserved since the same clock
+Stays y z = (z .reservation ≡ y .reservation) × (z .clock ≡ y .clock)
+
+-- THE SECOND ACCIDENT: "a reservation goes only by its own set-up, its cancel, a strictly higher call in the same domain whose answer
+-- names it, or a clock event at 3,000 steps or more"
+abbrev pub NoReservationLost : Type 0
+NoReservationLost =
+    (n : ℕ) (calls : List Call) (before : List Exchange) (p : Exchange) (later : List Exchange)
+    → past (emptyTable n) calls ≡ before ++ p ∷ later
+    → (c : ℕ) → c < n
+    → history before c .reservation .present ≡ true
+    → Stays (history before c) (history (before ++ p ∷ []) c) ⊎ Goes c (history before c) p
+
+-- call reference r, where x c is what the history shows of circuit c
+pub record InOnePart (n : ℕ) (x : ℕ → Circuit) (r : List ℕ) : Type 0 where
+  pub one-held : (c d : ℕ) → c < n → d < n → StandsIn r (x c .holder) → StandsIn r (x d .holder) → c ≡ d
+  pub one-reserved : (c d : ℕ) → c < n → d < n → StandsIn r (x c .reservation) → StandsIn r (x d .reservation) → c ≡ d
+  pub not-both : (c d : ℕ) → c < n → d < n → StandsIn r (x c .holder) → StandsIn r (x d .reservation) → ⊥
+
+-- "no call reference is ever in two parts"
+abbrev pub NeverTwice : Type 0
+NeverTwice = (n : ℕ) (calls : List Call) (r : List ℕ) → InOnePart n (history (past (emptyTable n) calls)) r

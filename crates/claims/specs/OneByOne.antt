@@ -1,0 +1,64 @@
+-- What holds of every table, one that is not valid too: a list is its events one by one, validity is kept, and a refusal changes nothing.
+use Prim.Native.Nat.{ℕ, _<_, _≤_}
+use mathlib.Core.Path.{_≡_}
+use mathlib.Core.Logic.{_≢_}
+use mathlib.Core.List.{List, [], _∷_}
+use lib.ListN.{length, replicate}
+use Rattle.rules.specs.declared.circuit.Circuit.{Circuit}
+use Rattle.rules.specs.Numbers.{causeOf}
+use Rattle.rules.specs.Records.{checkNumber}
+use Rattle.route.specs.Entries.{eventNumber, eventTable, eventAnswer, listNumber, listTable, listAnswers}
+use Rattle.claims.specs.History.{Exchange, answerNumber, heard}
+use Rattle.claims.specs.Calls.{Call, emptyTable, tableAfter, past}
+
+-- each event given to the event entry alone, with a zero answer to write on: it leaves the answer that the past has, and in the end
+-- table t is u
+abbrev pub EventByEvent : List ℕ → List Exchange → List ℕ → Type 0
+EventByEvent t [] u = t ≡ u
+EventByEvent t (p ∷ ps) u =
+    (p .answer ≡ eventAnswer t (p .event) (replicate 16 0)) × EventByEvent (eventTable t (p .event) (replicate 16 0)) ps u
+
+-- "a list is its events one by one, and lists one after another are one long run"
+abbrev pub OneByOne : Type 0
+OneByOne = (t : List ℕ) (calls : List Call) → EventByEvent t (past t calls) (tableAfter t calls)
+
+-- a list of one event leaves what the event entry leaves; so demand 3 is the event entry's too
+abbrev pub ListOfOne : Type 0
+ListOfOne =
+    (t e place : List ℕ) → length e ≡ 16 → (listTable t e place ≡ eventTable t e place) × (listAnswers t e place ≡ eventAnswer t e place)
+
+-- the event entry returns the number of the answer that it leaves, or 20
+abbrev pub ReturnsNumber : Type 0
+ReturnsNumber =
+    (t e place : List ℕ) → eventNumber t e place ≢ 20 → eventNumber t e place ≡ answerNumber (eventAnswer t e place)
+
+-- "every event keeps a valid table valid": the check gives what it gave, after an event and after a list
+abbrev pub EventKeepsValid : Type 0
+EventKeepsValid = (t e place : List ℕ) → checkNumber (eventTable t e place) ≡ checkNumber t
+
+abbrev pub ListKeepsValid : Type 0
+ListKeepsValid = (t es places : List ℕ) → checkNumber (listTable t es places) ≡ checkNumber t
+
+-- so it gives 0 after any calls from an empty table
+abbrev pub AlwaysValid : Type 0
+AlwaysValid = (n : ℕ) → 1 ≤ n → n ≤ 256 → (calls : List Call) → checkNumber (tableAfter (emptyTable n) calls) ≡ 0
+
+-- "a refusal changes nothing": the table stays, octet for octet
+abbrev pub RefusalKeepsTable : Type 0
+RefusalKeepsTable = (t e place : List ℕ) → 20 ≤ eventNumber t e place → eventTable t e place ≡ t
+
+-- and what the history shows stays
+abbrev pub RefusalKeepsHistory : Type 0
+RefusalKeepsHistory = (p : Exchange) (c : ℕ) (y : Circuit) → 20 ≤ answerNumber (p .answer) → heard p c y ≡ y
+
+-- "at 20 no buffer is written; every other refusal writes the answer: number, cause, 65535, zeros"
+abbrev pub WrongLengthWritesNothing : Type 0
+WrongLengthWritesNothing = (t e place : List ℕ) → eventNumber t e place ≡ 20 → eventAnswer t e place ≡ place
+
+abbrev pub RefusalAnswer : Type 0
+RefusalAnswer =
+    (t e place : List ℕ) → 20 < eventNumber t e place → eventAnswer t e place ≡ eventNumber t e place ∷ causeOf (eventNumber t e place) ∷ 255 ∷ 255 ∷ replicate 12 0
+
+abbrev pub RefusedList : Type 0
+RefusedList =
+    (t es places : List ℕ) → listNumber t es places ≡ 20 → (listTable t es places ≡ t) × (listAnswers t es places ≡ places)
