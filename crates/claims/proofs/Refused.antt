@@ -19,7 +19,7 @@ use Rattle.rules.specs.Run.{decide, effect, after, answered, answer, run, answe
 use Rattle.rules.specs.Records.{circuitAt, answerOctets, eventAt, records}
 use Rattle.route.specs.Entries.{eventsIn, eventLengths, eventNumber, eventTable, eventAnswer, listLengths, listNumber, listTable, listAnswers}
 use Rattle.claims.specs.History.{answerNumber, answerPlace}
-use Rattle.claims.specs.OneByOne.{ReturnsNumber, RefusalKeepsTable, RefusalKeepsHistory, WrongLengthWritesNothing, RefusalAnswer, RefusedList}
+use Rattle.claims.specs.OneByOne.{ReturnsNumber, RefusalKeepsTable, RefusalKeepsHistory, RefusalAnswer, RefusedList}
 use Rattle.claims.proofs.Heard.{refusal-high, told-refused}
 use Rattle.claims.proofs.Octets.{answer-number}
 
@@ -63,12 +63,6 @@ module _ (t e : List ℕ) where
       ≡ answerOf (circuitAt t) (length t / 32) by o .number ∷ causeOf (answerOf (circuitAt t) (length t / 32) by o .number) ∷ 255 ∷ 255 ∷ replicate 12 0)
       (λ r. refl) outcome
 
-  -- 20 is given for lengths alone
-  not-twenty : answered records t e .number ≢ 20
-  unfolding answered answerOf records
-  not-twenty z =
-      by-number (circuitAt t) (length t / 32) by (λ o. answerOf (circuitAt t) (length t / 32) by o .number ≡ 20 → ⊥) (λ r w. omega (arith, refusal-high r)) outcome (omega arith) z
-
 -- what its three results are, by its lengths
 module _ (t e place : List ℕ) where
   lengths-right : eventNumber t e place ≢ 20 → eventLengths t e place ≡ true
@@ -94,10 +88,6 @@ module _ (t e place : List ℕ) where
     unfolding eventTable
     table-stays = ap (λ (b : Bool). cond b (after records t e) t) q
 
-    pub answer-stays : eventAnswer t e place ≡ place
-    unfolding eventAnswer
-    answer-stays = ap (λ (b : Bool). cond b (answer records t e) place) q
-
 pub returns-number : ReturnsNumber
 returns-number t e place h =
     let q = lengths-right t e place h in
@@ -110,10 +100,6 @@ refusal-keeps-table t e place h =
 
 pub refusal-keeps-history : RefusalKeepsHistory
 refusal-keeps-history p c y h = told-refused (eventAt (p .event)) (answerPlace (p .answer)) c y (answerNumber (p .answer)) (omega arith)
-
-pub wrong-length-writes-nothing : WrongLengthWritesNothing
-wrong-length-writes-nothing t e place h =
-    by-so (eventLengths t e place) (λ q. absurd (not-twenty t e (sym (number-then t e place q) ∙ h))) (answer-stays t e place)
 
 pub refusal-answer : RefusalAnswer
 refusal-answer t e place h =

@@ -6,9 +6,9 @@ use mathlib.Core.Bool.{Bool, true, false, cond, _||_, true≢false}
 use mathlib.Core.List.{List, _∷_}
 use lib.ListN.{length}
 use lib.Dec.{eqb, leb}
-use borrow.Author.Tests.{ne-eqb, leb-true}
+use borrow.Author.Tests.{ne-eqb, leb-true, le-leb}
 use Rattle.octets.specs.Span.{span}
-use Rattle.octets.proofs.Tests.{and-right, by-eq, by-so, by-test}
+use Rattle.octets.proofs.Tests.{and-right, and-both, not-so, by-eq, by-so, by-test}
 use Rattle.octets.proofs.Width.{value-octets}
 use Rattle.octets.proofs.Spans.{length-span, span-all}
 use Rattle.rules.specs.declared.mark.Mark.{Mark}
@@ -23,9 +23,9 @@ use Rattle.rules.specs.Circuit.{nobody, isOf, limit, age, standing, made, overd
 use Rattle.rules.specs.Answer.{becomes, anothers, answerOf}
 use Rattle.rules.specs.Run.{decide, answered, answer}
 use Rattle.rules.specs.Records.{circuitAt, flag, loser, answerOctets, eventAt, records}
-use Rattle.claims.specs.History.{Exchange, answerNumber, answerPlace, heard, history}
+use Rattle.claims.specs.History.{Exchange, asked, told, answerNumber, answerPlace, heard, history}
 use Rattle.claims.specs.Calls.{emptyTable, tableAfter}
-use Rattle.claims.specs.Accidents.{Goes, own-set-up, cancelled, higher-call, overdue, Stays, NoReservationLost}
+use Rattle.claims.specs.Accidents.{Old, Goes, own-set-up, cancelled, higher-call, overdue, Stays, NoReservationLost, OldOnesGo}
 use Rattle.claims.proofs.Heard.{told-becomes}
 use Rattle.claims.proofs.Plain.{stands-in, free-so, lower-so}
 use Rattle.claims.proofs.Reasons.{Open, Reason, decided}
@@ -40,6 +40,17 @@ loser-there p h five = ap₂ (λ (b : Bool) (r : List ℕ). flag b ∷ r) h (spa
 lost-number : (b : Bool) → (_≡_ {A = ℕ} (cond b 2 1) 1) ⊎ (_≡_ {A = ℕ} (cond b 2 1) 2)
 lost-number true = inr refl
 lost-number false = inl refl
+
+-- ---- the limit
+module _ (clock : ℕ) (y : Circuit) where
+  abbrev steps : ℕ
+  steps = age clock (y .clock)
+
+  overdue-old : isOverdue clock y ≡ true → Old clock y
+  overdue-old h = leb-true limit steps (and-right (y .reservation .present) (leb limit steps) h)
+
+  old-overdue : y .reservation .present ≡ true → Old clock y → isOverdue clock y ≡ true
+  old-overdue there h = and-both (y .reservation .present) (leb limit steps) there (le-leb limit steps h)
 
 -- ---- table t shows circuits x; p is an event over it with its answer
 module _ (t : List ℕ) (p : Exchange) where
@@ -111,7 +122,7 @@ module _ (t : List ℕ) (p : Exchange) where
     kept-or-goes (Do Cancel i) h a = acted Cancel i (λ q. by-cancel i q h a)
     kept-or-goes Clock h a =
         by-test Kept (isOverdue (e .clock) (x c)) (made e Cancel (x c)) (x c)
-        (λ z. inr (overdue h (leb-true limit (age (e .clock) (x c .clock)) (and-right (x c .reservation .present) (leb limit (age (e .clock) (x c .clock))) z)) (ap answerNumber a)))
+        (λ z. inr (overdue h (ap answerNumber a) (overdue-old (e .clock) (x c) z)))
         (λ z. inl (refl, refl))
 
   -- what the history tells of a circuit that it showed as the table does
@@ -129,3 +140,16 @@ no-reservation-lost n calls before p later split c l there =
     subst (λ (h : ℕ → Circuit). Stays (history before c) (h c) ⊎ Goes c (history before c) p) (sym (history-then before p))
     (subst (λ (y : Circuit). Stays y (heard p c y) ⊎ Goes c y p) q
     (told-kept (a .table) p (a .answer) c (ap (λ (y : Circuit). y .reservation .present) q ∙ there)))
+
+pub old-ones-go : OldOnesGo
+unfolding told
+old-ones-go p c y seven there =
+    let e = asked p in
+    let said : heard p c y ≡ cond (isOverdue (e .clock) y) (made e Cancel y) y = ap (λ (k : ℕ). told e k (answerPlace (p .answer)) c y) seven in
+    let by : (b : Bool) → isOverdue (e .clock) y ≡ b → heard p c y ≡ cond b (made e Cancel y) y = λ b q. said ∙ ap (λ (z : Bool). cond z (made e Cancel y) y) q in
+    (
+      λ h. ap (λ (z : Circuit). z .reservation) (by true (old-overdue (e .clock) y there h)),
+      λ h.
+          let still = by false (not-so (isOverdue (e .clock) y) (λ q. h (overdue-old (e .clock) y q))) in
+          (ap (λ (z : Circuit). z .reservation) still, ap (λ (z : Circuit). z .clock) still),
+    )

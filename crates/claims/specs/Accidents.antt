@@ -7,8 +7,9 @@ use mathlib.Core.List.{List, [], _∷_, _++_}
 use lib.ListN.{replicate}
 use Rattle.octets.specs.Span.{span}
 use Rattle.rules.specs.declared.circuit.Circuit.{Circuit}
-use Rattle.rules.specs.Records.{circuitAt, eventAt}
-use Rattle.claims.specs.History.{Exchange, answerNumber, answerPlace, history}
+use Rattle.rules.specs.Circuit.{nobody}
+use Rattle.rules.specs.Records.{circuitAt}
+use Rattle.claims.specs.History.{Exchange, asked, answerNumber, answerPlace, heard, history}
 use Rattle.claims.specs.Calls.{Call, emptyTable, tableAfter, past}
 use Rattle.claims.specs.Demand.{StandsIn}
 
@@ -25,32 +26,24 @@ abbrev pub NoMarkLeft : Type 0
 NoMarkLeft =
     (n : ℕ) (calls : List Call) (c : ℕ) → c < n → OnlyWithParty (tableAfter (emptyTable n) calls) c (history (past (emptyTable n) calls) c)
 
+-- the clock less the stored clock of circuit y, modulo 4,294,967,296, is 3,000 or more
+abbrev pub Old : ℕ → Circuit → Type 0
+Old clock y = 3000 ≤ (clock + 4294967296 - y .clock) % 4294967296
+
 -- exchange p takes the reservation of circuit c, which is y, away
 pub data Goes (c : ℕ) (y : Circuit) (p : Exchange) : Type 0 where
-  -- its own set-up: the call then holds the circuit
-  own-set-up : eventAt (p .event) .kind ≡ 1
-      → StandsIn (eventAt (p .event) .reference) (y .reservation)
-      → (answerNumber (p .answer) ≡ 1) ⊎ (answerNumber (p .answer) ≡ 2)
-      → answerPlace (p .answer) ≡ c
-      → Goes c y p
-  -- its cancel
-  cancelled : eventAt (p .event) .kind ≡ 4
-      → StandsIn (eventAt (p .event) .reference) (y .reservation)
-      → answerNumber (p .answer) ≡ 6
-      → answerPlace (p .answer) ≡ c
-      → Goes c y p
+  -- its own set-up, answered by 1 or 2: the call then holds the circuit
+  own-set-up : asked p .kind ≡ 1 → StandsIn (asked p .reference) (y .reservation)
+      → (answerNumber (p .answer) ≡ 1) ⊎ (answerNumber (p .answer) ≡ 2) → answerPlace (p .answer) ≡ c → Goes c y p
+  -- its cancel, answered by 6
+  cancelled : asked p .kind ≡ 4 → StandsIn (asked p .reference) (y .reservation)
+      → answerNumber (p .answer) ≡ 6 → answerPlace (p .answer) ≡ c → Goes c y p
   -- a set-up or look-ahead of a strictly higher call in the same domain, whose answer names it
-  higher-call : (eventAt (p .event) .kind ≡ 1) ⊎ (eventAt (p .event) .kind ≡ 3)
-      → eventAt (p .event) .mark .domain ≡ y .reservation .mark .domain
-      → eventAt (p .event) .mark .level .0 < y .reservation .mark .level .0
-      → answerPlace (p .answer) ≡ c
-      → span (p .answer) 10 6 ≡ 1 ∷ y .reservation .reference
-      → Goes c y p
-  -- a clock event: the clock less its stored clock, modulo 4,294,967,296, is 3,000 or more
-  overdue : eventAt (p .event) .kind ≡ 5
-      → 3000 ≤ (eventAt (p .event) .clock + 4294967296 - y .clock) % 4294967296
-      → answerNumber (p .answer) ≡ 7
-      → Goes c y p
+  higher-call : (asked p .kind ≡ 1) ⊎ (asked p .kind ≡ 3) → asked p .mark .domain ≡ y .reservation .mark .domain
+      → asked p .mark .level .0 < y .reservation .mark .level .0
+      → answerPlace (p .answer) ≡ c → span (p .answer) 10 6 ≡ 1 ∷ y .reservation .reference → Goes c y p
+  -- a clock event, answered by 7, at 3,000 steps or more
+  overdue : asked p .kind ≡ 5 → answerNumber (p .answer) ≡ 7 → Old (asked p .clock) y → Goes c y p
 
 abbrev pub Stays : Circuit → Circuit → Type 0  -- the same party has it reserved since the same clock
 Stays y z = (z .reservation ≡ y .reservation) × (z .clock ≡ y .clock)
@@ -61,9 +54,14 @@ abbrev pub NoReservationLost : Type 0
 NoReservationLost =
     (n : ℕ) (calls : List Call) (before : List Exchange) (p : Exchange) (later : List Exchange)
     → past (emptyTable n) calls ≡ before ++ p ∷ later
-    → (c : ℕ) → c < n
-    → history before c .reservation .present ≡ true
+    → (c : ℕ) → c < n → history before c .reservation .present ≡ true
     → Stays (history before c) (history (before ++ p ∷ []) c) ⊎ Goes c (history before c) p
+
+-- and a clock event that was taken removes each reservation that is old, and no other
+abbrev pub OldOnesGo : Type 0
+OldOnesGo =
+    (p : Exchange) (c : ℕ) (y : Circuit) → answerNumber (p .answer) ≡ 7 → y .reservation .present ≡ true
+    → (Old (asked p .clock) y → heard p c y .reservation ≡ nobody) × ((Old (asked p .clock) y → ⊥) → Stays y (heard p c y))
 
 -- call reference r, where x c is what the history shows of circuit c
 pub record InOnePart (n : ℕ) (x : ℕ → Circuit) (r : List ℕ) : Type 0 where

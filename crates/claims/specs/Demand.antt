@@ -1,4 +1,8 @@
--- The customer's demand 3: "From an empty table of 1 to 256 circuits, after any lists of events, refused ones too: who holds and who has reserved each circuit follows from the past events and answers alone; a well-formed set-up whose reference holds and reserves nothing is refused for want of a circuit exactly if none is free and none stands under a strictly lower precedence in the same domain; else it gets the first free one, failing that the lowest-precedence one by 01's tie rule, and the losers named are exactly those the history shows there."
+-- The customer's demand 3: "From an empty table of 1 to 256 circuits, after any lists of events, refused ones too: who holds and who
+-- has reserved each circuit follows from the past events and answers alone; a well-formed set-up whose reference holds and reserves
+-- nothing is refused for want of a circuit exactly if none is free and none stands under a strictly lower precedence in the same
+-- domain; else it gets the first free one, failing that the lowest-precedence one by 01's tie rule, and the losers named are exactly
+-- those the history shows there."
 use Prim.Native.Nat.{ℕ, _/_, _%_, _<_, _≤_}
 use mathlib.Core.Path.{_≡_}
 use mathlib.Core.Logic.{_↔_, _≢_, _⊎_}
@@ -13,7 +17,7 @@ use Rattle.rules.specs.Circuit.{isRoutine, nobody, party}
 use Rattle.rules.specs.Event.{wellFormed}
 use Rattle.rules.specs.Records.{circuitAt, eventAt}
 use Rattle.route.specs.Entries.{listAnswers}
-use Rattle.claims.specs.History.{Exchange, answerNumber, history}
+use Rattle.claims.specs.History.{Exchange, asked, answerNumber, history}
 use Rattle.claims.specs.Calls.{Call, emptyTable, tableAfter, past}
 use Rattle.claims.specs.Chosen.{NoneFree, NoneLower, FirstFree, Lowest}
 
@@ -85,5 +89,5 @@ abbrev pub Demand3Within : Type 0
 Demand3Within =
     (n : ℕ) (calls : List Call) (before : List Exchange) (p : Exchange) (later : List Exchange)
     → past (emptyTable n) calls ≡ before ++ p ∷ later
-    → NewSetUp n (history before) (eventAt (p .event))
-    → Answered n (history before) (history (before ++ p ∷ [])) (eventAt (p .event)) (p .answer)
+    → NewSetUp n (history before) (asked p)
+    → Answered n (history before) (history (before ++ p ∷ [])) (asked p) (p .answer)

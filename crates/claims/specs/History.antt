@@ -11,10 +11,13 @@ use Rattle.rules.specs.declared.outcome.Act.the-variants.{Seize, Reserve, Relea
 use Rattle.rules.specs.Circuit.{nobody, overdue, made}
 use Rattle.rules.specs.Records.{eventAt}
 
--- an event and the answer that was given to it, 16 octets each
+-- an event and the answer that was given to it, both in their octets
 pub record Exchange : Type 0 where
   pub event : List ℕ
   pub answer : List ℕ
+
+abbrev pub asked : Exchange → Event  -- what its event says
+asked p = eventAt (p .event)
 
 abbrev pub answerNumber : List ℕ → ℕ  -- an answer's octet 0: its number
 answerNumber a = getD a 0 0
@@ -36,7 +39,7 @@ unfoldable pub told : Event → ℕ → ℕ → ℕ → Circuit → Circuit
 told e k i c y = cond (eqb k 7) (cond (overdue (e .clock) y) (made e Cancel y) y) (cond (eqb i c) (named e k y) y)
 
 abbrev pub heard : Exchange → ℕ → Circuit → Circuit  -- the same, read from the octets
-heard p c y = told (eventAt (p .event)) (answerNumber (p .answer)) (answerPlace (p .answer)) c y
+heard p c y = told (asked p) (answerNumber (p .answer)) (answerPlace (p .answer)) c y
 
 -- circuit c after these exchanges, the oldest first, if it was y before them
 abbrev pub historyFrom : Circuit → List Exchange → ℕ → Circuit

@@ -51,14 +51,12 @@ RefusalKeepsTable = (t e place : List ℕ) → 20 ≤ eventNumber t e place → 
 abbrev pub RefusalKeepsHistory : Type 0
 RefusalKeepsHistory = (p : Exchange) (c : ℕ) (y : Circuit) → 20 ≤ answerNumber (p .answer) → heard p c y ≡ y
 
--- "at 20 no buffer is written; every other refusal writes the answer: number, cause, 65535, zeros"
-abbrev pub WrongLengthWritesNothing : Type 0
-WrongLengthWritesNothing = (t e place : List ℕ) → eventNumber t e place ≡ 20 → eventAnswer t e place ≡ place
-
+-- "every other refusal writes the answer: number, cause, 65535, zeros"
 abbrev pub RefusalAnswer : Type 0
 RefusalAnswer =
     (t e place : List ℕ) → 20 < eventNumber t e place → eventAnswer t e place ≡ eventNumber t e place ∷ causeOf (eventNumber t e place) ∷ 255 ∷ 255 ∷ replicate 12 0
 
+-- "at 20 no buffer is written"
 abbrev pub RefusedList : Type 0
 RefusedList =
     (t es places : List ℕ) → listNumber t es places ≡ 20 → (listTable t es places ≡ t) × (listAnswers t es places ≡ places)
