@@ -14,12 +14,11 @@ use Rattle.rules.specs.Records.{records, tableLength, checkNumber}
 use Rattle.rules.proofs.Records.{lawful}
 use Rattle.rules.proofs.Kept.{valid-after, run-valid}
 use Rattle.route.specs.Entries.{eventLengths, eventsIn, listLengths, listTable}
-use Rattle.claims.specs.Calls.{emptyTable, tableAfter, past}
+use Rattle.claims.specs.Calls.{emptyTable, tableAfter}
 use Rattle.claims.specs.OneByOne.{EventKeepsValid, ListKeepsValid, AlwaysValid}
 use Rattle.claims.proofs.Octets.{length-after, length-run}
-use Rattle.claims.proofs.Cut.{past-ran}
 use Rattle.claims.proofs.Refused.{table-then, table-stays}
-use Rattle.claims.proofs.Demanded.{table-length, now-valid, now-long}
+use Rattle.claims.proofs.Demanded.{table-length, now, now-long}
 
 same-number : (v w : Verdict) → isValid v ≡ isValid w → verdictNumber v ≡ verdictNumber w
 same-number Valid Valid h = refl
@@ -51,6 +50,5 @@ unfolding checkNumber valid
 always-valid n one many calls =
     let t = emptyTable n in
     let u = tableAfter t calls in
-    let ran = past-ran calls t in
-    ap₂ (λ (b : Bool) (k : ℕ). cond b k lengthWrong) (table-length u n (now-long n (past t calls) u ran) one many)
-    (same-number (verdict records u) Valid (now-valid n (past t calls) u ran))
+    ap₂ (λ (b : Bool) (k : ℕ). cond b k lengthWrong) (table-length u n (now-long n calls) one many)
+    (same-number (verdict records u) Valid (now n calls .still-valid))

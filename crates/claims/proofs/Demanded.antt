@@ -10,41 +10,42 @@ use borrow.Author.Tests.{eq-eqb, le-leb}
 use Rattle.octets.proofs.Tests.{and-both}
 use Rattle.octets.proofs.Spans.{span-all}
 use Rattle.rules.specs.declared.circuit.Circuit.{Circuit}
-use Rattle.rules.specs.Valid.{valid}
 use Rattle.rules.specs.Numbers.{lengthWrong}
 use Rattle.rules.specs.Run.{answer}
-use Rattle.rules.specs.Records.{circuitAt, eventAt, records, tableLength, listLength}
+use Rattle.rules.specs.Records.{circuitAt, eventAt, tableLength, listLength}
 use Rattle.route.specs.Entries.{listLengths, listNumber, listAnswers}
-use Rattle.claims.specs.History.{Exchange, empty, heard, historyFrom, history}
+use Rattle.claims.specs.History.{Exchange, asked, empty, heard, historyFrom, history}
 use Rattle.claims.specs.Calls.{Call, emptyTable, exchangesTo, exchanges, tableAfter, past}
 use Rattle.claims.specs.Demand.{HistoryTells, NewSetUp, Answered, Demand3, Demand3Within}
-use Rattle.claims.proofs.Ran.{Ran, ran-around, Shown, shown}
+use Rattle.claims.proofs.Ran.{Ran, Shown, shown}
 use Rattle.claims.proofs.Cut.{past-ran, length-left, past-append}
 use Rattle.claims.proofs.Start.{circuit-empty, start-valid}
-use Rattle.claims.proofs.Served.{served}
+use Rattle.claims.proofs.Served.{served-within}
 
 -- ---- from the empty table
-module _ (n : ℕ) (ps : List Exchange) (u : List ℕ) (ran : Ran (emptyTable n) ps u) where
-  from-empty : Shown (emptyTable n) ps u
-  from-empty = shown ps (emptyTable n) u (start-valid n) ran
+module _ (n : ℕ) where
+  start-long : length (emptyTable n) ≡ 32 * n
+  start-long = length-replicate (32 * n) 0
 
-  long : length (emptyTable n) ≡ 32 * n
-  long = length-replicate (32 * n) 0
+  pub start-count : length (emptyTable n) / 32 ≡ n
+  start-count = omega (arith, start-long)
 
-  pub now-valid : valid records u ≡ true
-  now-valid = from-empty .still-valid
+  pub start-shows : (c : ℕ) → c < length (emptyTable n) / 32 → circuitAt (emptyTable n) c ≡ empty
+  start-shows c l = circuit-empty n c
 
-  pub now-long : length u ≡ 32 * n
-  now-long = from-empty .as-long ∙ long
+  module _ (calls : List Call) where
+    pub now : Shown (emptyTable n) (λ c. empty) (past (emptyTable n) calls) (tableAfter (emptyTable n) calls)
+    now =
+        shown (past (emptyTable n) calls) (emptyTable n) (tableAfter (emptyTable n) calls) (start-valid n) (λ c. empty) start-shows (past-ran calls (emptyTable n))
 
-  pub now-count : length u / 32 ≡ n
-  now-count = omega (arith, now-long)
+    pub now-long : length (tableAfter (emptyTable n) calls) ≡ 32 * n
+    now-long = now .as-long ∙ start-long
 
-  pub now-shows : (c : ℕ) → c < n → circuitAt u c ≡ history ps c
-  now-shows c l = from-empty .tells c (omega (arith, long)) ∙ ap (λ (y : Circuit). historyFrom y ps c) (circuit-empty n c)
+    pub now-count : length (tableAfter (emptyTable n) calls) / 32 ≡ n
+    now-count = omega (arith, now-long)
 
 pub history-tells : HistoryTells
-history-tells n calls = now-shows n (past (emptyTable n) calls) (tableAfter (emptyTable n) calls) (past-ran calls (emptyTable n))
+history-tells n calls c l = now n calls .tells c (omega (arith, start-count n))
 
 -- ---- one exchange more
 history-append : (ps qs : List Exchange) (y : Circuit) (c : ℕ) → historyFrom y (ps ++ qs) c ≡ historyFrom (historyFrom y ps c) qs c
@@ -54,13 +55,16 @@ history-append (p ∷ ps) qs y c = history-append ps qs (heard p c y) c
 pub history-then : (ps : List Exchange) (p : Exchange) → history (ps ++ p ∷ []) ≡ (λ c. heard p c (history ps c))
 history-then ps p = λ d c. history-append ps (p ∷ []) empty c d
 
+-- a past taken apart was still run
+pub ran-split : (n : ℕ) (calls : List Call) (ps : List Exchange) → past (emptyTable n) calls ≡ ps → Ran (emptyTable n) ps (tableAfter (emptyTable n) calls)
+ran-split n calls ps split =
+    subst (λ (qs : List Exchange). Ran (emptyTable n) qs (tableAfter (emptyTable n) calls)) split (past-ran calls (emptyTable n))
+
 pub demand-3-within : Demand3Within
 demand-3-within n calls before p later split new =
-    let a = ran-around before (emptyTable n) p later _ (subst (λ (ps : List Exchange). Ran (emptyTable n) ps (tableAfter (emptyTable n) calls)) split (past-ran calls (emptyTable n))) in
-    let s = a .table in
-    let e = eventAt (p .event) in
-    subst (λ (y : ℕ → Circuit). Answered n (history before) y e (p .answer)) (sym (history-then before p))
-    (subst (λ (m : ℕ). ((c : ℕ) → c < m → circuitAt s c ≡ history before c) → NewSetUp m (history before) e → Answered m (history before) (λ c. heard p c (history before c)) e (p .answer)) (now-count n before s (a .earlier)) (λ q. served s (now-valid n before s (a .earlier)) (history before) q p (a .answer)) (now-shows n before s (a .earlier)) new)
+    subst (λ (y : ℕ → Circuit). Answered n (history before) y (asked p) (p .answer)) (sym (history-then before p))
+    (subst (λ (m : ℕ). NewSetUp m (history before) (asked p) → Answered m (history before) (λ c. heard p c (history before c)) (asked p) (p .answer)) (start-count n)
+    (served-within (emptyTable n) (start-valid n) (λ c. empty) (start-shows n) before p later (tableAfter (emptyTable n) calls) (ran-split n calls (before ++ p ∷ later) split)) new)
 
 -- ---- the next list, of one event
 module _ (t e place : List ℕ) (sixteen : length e ≡ 16) where
@@ -97,7 +101,7 @@ demand-3 n one many calls e place sixteen room new =
     let u = tableAfter t calls in
     let k : Call = record { events = e; places = place } in
     let p : Exchange = record { event = e; answer = listAnswers u e place } in
-    let lengths = one-lengths u e place (table-length u n (now-long n (past t calls) u (past-ran calls t)) one many) sixteen room in
+    let lengths = one-lengths u e place (table-length u n (now-long n calls) one many) sixteen room in
     let split : past t (calls ++ k ∷ []) ≡ past t calls ++ p ∷ [] = past-append calls (k ∷ []) t ∙ ap (λ (ps : List Exchange). past t calls ++ ps) (append-nil (exchanges u k) ∙ one-exchange u e place sixteen lengths) in
     subst (λ (ps : List Exchange). Answered n (history (past t calls)) (history ps) (eventAt e) (listAnswers u e place)) (sym split)
     (demand-3-within n (calls ++ k ∷ []) (past t calls) p [] split new)

@@ -15,8 +15,7 @@ use Rattle.rules.proofs.Faults.{valid-facts}
 use Rattle.claims.specs.History.{history}
 use Rattle.claims.specs.Calls.{emptyTable, tableAfter, past}
 use Rattle.claims.specs.Accidents.{OnlyWithParty, NoMarkLeft}
-use Rattle.claims.proofs.Cut.{past-ran}
-use Rattle.claims.proofs.Demanded.{now-valid, now-count, now-shows}
+use Rattle.claims.proofs.Demanded.{now, now-count, history-tells}
 
 -- a part of w octets whose flag is not 1 is zero
 zero-part : (t : List ℕ) (o w : ℕ) → blankPart t o w ≡ true → eqb (getD t o 0) 1 ≡ false → span t o w ≡ replicate w 0
@@ -43,5 +42,5 @@ no-mark-left n calls c l =
     let t = emptyTable n in
     let u = tableAfter t calls in
     let ps = past t calls in
-    let ran = past-ran calls t in
-    only-with-party u c (history ps c) (valid-facts records u (now-valid n ps u ran) .blank c (omega (arith, now-count n ps u ran))) (now-shows n ps u ran c l)
+    let h = now n calls in
+    only-with-party u c (history ps c) (valid-facts records u (h .still-valid) .blank c (omega (arith, now-count n calls))) (history-tells n calls c l)

@@ -23,19 +23,6 @@ pub ran-append : (ps qs : List Exchange) (t u v : List ℕ) → Ran t ps u → R
 ran-append [] qs t u v h g = subst (λ (w : List ℕ). Ran w qs v) (sym h) g
 ran-append (p ∷ ps) qs t u v h g = (h .0, ran-append ps qs (after records t (p .event)) u v (h .1) g)
 
--- a past taken apart at one exchange: table s stood before it
-pub record Around (t : List ℕ) (before : List Exchange) (p : Exchange) (later : List Exchange) (u : List ℕ) : Type 0 where
-  pub table : List ℕ
-  pub earlier : Ran t before table
-  pub answer : p .answer ≡ answer records table (p .event)
-  pub rest : Ran (after records table (p .event)) later u
-
-pub ran-around : (before : List Exchange) (t : List ℕ) (p : Exchange) (later : List Exchange) (u : List ℕ) → Ran t (before ++ p ∷ later) u → Around t before p later u
-ran-around [] t p later u h = record { table = t; earlier = refl; answer = h .0; rest = h .1 }
-ran-around (q ∷ qs) t p later u h =
-    let r = ran-around qs (after records t (q .event)) p later u (h .1) in
-    record { table = r .table; earlier = (h .0, r .earlier); answer = r .answer; rest = r .rest }
-
 -- ---- one exchange
 module _ (t : List ℕ) (p : Exchange) (a : p .answer ≡ answer records t (p .event)) (c : ℕ) where
   pub heard-answered : (y : Circuit) → heard p c y ≡ told (eventAt (p .event)) (answered records t (p .event) .number) (answered records t (p .event) .place) c y
@@ -46,23 +33,41 @@ module _ (t : List ℕ) (p : Exchange) (a : p .answer ≡ answer records t (p .e
   unfolding records
   view-heard v l = view-told records lawful t (p .event) v c l ∙ sym (heard-answered (circuitAt t c))
 
--- ---- all of them: from any valid table, what the table shows is what the history tells
-pub record Shown (t : List ℕ) (ps : List Exchange) (u : List ℕ) : Type 0 where
+-- ---- all of them: from any valid table t that shows circuits y, what the table shows in the end is what the history tells
+pub record Shown (t : List ℕ) (y : ℕ → Circuit) (ps : List Exchange) (u : List ℕ) : Type 0 where
   pub still-valid : valid records u ≡ true
   pub as-long : length u ≡ length t
-  pub tells : (c : ℕ) → c < length t / 32 → circuitAt u c ≡ historyFrom (circuitAt t c) ps c
+  pub tells : (c : ℕ) → c < length t / 32 → circuitAt u c ≡ historyFrom (y c) ps c
 
-pub shown : (ps : List Exchange) (t u : List ℕ) → valid records t ≡ true → Ran t ps u → Shown t ps u
-shown [] t u v h =
-    record { still-valid = ap (valid records) (sym h) ∙ v; as-long = ap length (sym h); tells = λ c l. ap (λ (w : List ℕ). circuitAt w c) (sym h) }
-shown (p ∷ ps) t u v h =
+pub shown : (ps : List Exchange) (t u : List ℕ) → valid records t ≡ true → (y : ℕ → Circuit) → ((c : ℕ) → c < length t / 32 → circuitAt t c ≡ y c) → Ran t ps u → Shown t y ps u
+shown [] t u v y q h =
+    record {
+      still-valid = ap (valid records) (sym h) ∙ v;
+      as-long = ap length (sym h);
+      tells = λ c l. ap (λ (w : List ℕ). circuitAt w c) (sym h) ∙ q c l;
+    }
+shown (p ∷ ps) t u v y q h =
     let s = after records t (p .event) in
     let long = length-after t (p .event) in
-    let r = shown ps s u (after-valid records lawful t (p .event) v) (h .1) in
+    let fewer : (c : ℕ) → c < length s / 32 → c < length t / 32 = λ c l. subst (λ (m : ℕ). c < m / 32) long l in
+    let r = shown ps s u (after-valid records lawful t (p .event) v) (λ c. heard p c (y c)) (λ c l. view-heard t p (h .0) c v (fewer c l) ∙ ap (heard p c) (q c (fewer c l))) (h .1) in
     record {
       still-valid = r .still-valid;
       as-long = r .as-long ∙ long;
-      tells =
-          λ c l.
-          r .tells c (subst (λ (n : ℕ). c < n / 32) (sym long) l) ∙ ap (λ (y : Circuit). historyFrom y ps c) (view-heard t p (h .0) c v l);
+      tells = λ c l. r .tells c (subst (λ (m : ℕ). c < m / 32) (sym long) l);
     }
+
+-- ---- exchange p in a past: the table before it, and how it was answered
+pub record Stood (t : List ℕ) (y : ℕ → Circuit) (before : List Exchange) (p : Exchange) : Type 0 where
+  pub table : List ℕ
+  pub shows : Shown t y before table
+  pub answer : p .answer ≡ answer records table (p .event)
+
+module _ (p : Exchange) (later : List Exchange) (u : List ℕ) where
+  around : (before : List Exchange) (t : List ℕ) → Ran t (before ++ p ∷ later) u → (s : List ℕ) × Ran t before s × (p .answer ≡ answer records s (p .event))
+  around [] t h = (t, refl, h .0)
+  around (q ∷ qs) t h = let r = around qs (after records t (q .event)) (h .1) in (r .0, (h .0, r .1), r .2)
+
+  pub stood : (before : List Exchange) (t : List ℕ) → valid records t ≡ true → (y : ℕ → Circuit) → ((c : ℕ) → c < length t / 32 → circuitAt t c ≡ y c) → Ran t (before ++ p ∷ later) u → Stood t y before p
+  stood before t v y q h =
+      let r = around before t h in record { table = r .0; shows = shown before t (r .0) v y q (r .1); answer = r .2 }

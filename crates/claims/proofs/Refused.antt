@@ -20,7 +20,7 @@ use Rattle.rules.specs.Records.{circuitAt, answerOctets, eventAt, records}
 use Rattle.route.specs.Entries.{eventsIn, eventLengths, eventNumber, eventTable, eventAnswer, listLengths, listNumber, listTable, listAnswers}
 use Rattle.claims.specs.History.{answerNumber, answerPlace}
 use Rattle.claims.specs.OneByOne.{ReturnsNumber, RefusalKeepsTable, RefusalKeepsHistory, RefusalAnswer, RefusedList}
-use Rattle.claims.proofs.Heard.{refusal-high, told-refused}
+use Rattle.claims.proofs.Heard.{told-refused}
 use Rattle.claims.proofs.Octets.{answer-number}
 
 -- an outcome that is answered by 20 or more is a refusal

@@ -3,7 +3,8 @@ use Prim.Native.Nat.{ℕ, _+_, _*_, _/_, _<_}
 use mathlib.Core.Path.{_≡_, refl, sym, ap, ap₂, _∙_, subst}
 use mathlib.Core.Logic.{⊎-elim, _⊎_, inl, inr}
 use mathlib.Core.Bool.{Bool, true, false, cond, _||_, true≢false}
-use mathlib.Core.List.{List, _∷_}
+use mathlib.Core.List.{List, _∷_, _++_}
+use native.Mathlib.Omega.{arith}
 use lib.ListN.{length}
 use lib.Dec.{eqb, leb}
 use borrow.Author.Tests.{ne-eqb, leb-true, le-leb}
@@ -21,17 +22,18 @@ use Rattle.rules.specs.declared.outcome.Outcome.{Outcome}
 use Rattle.rules.specs.declared.outcome.Outcome.the-variants.{Refuse, Do, Clock}
 use Rattle.rules.specs.Circuit.{nobody, isOf, limit, age, standing, made, overdue as isOverdue}
 use Rattle.rules.specs.Answer.{becomes, anothers, answerOf}
+use Rattle.rules.specs.Valid.{valid}
 use Rattle.rules.specs.Run.{decide, answered, answer}
 use Rattle.rules.specs.Records.{circuitAt, flag, loser, answerOctets, eventAt, records}
-use Rattle.claims.specs.History.{Exchange, asked, told, answerNumber, answerPlace, heard, history}
+use Rattle.claims.specs.History.{Exchange, asked, answerNumber, answerPlace, told, heard, empty, historyFrom, history}
 use Rattle.claims.specs.Calls.{emptyTable, tableAfter}
 use Rattle.claims.specs.Accidents.{Old, Goes, own-set-up, cancelled, higher-call, overdue, Stays, NoReservationLost, OldOnesGo}
 use Rattle.claims.proofs.Heard.{told-becomes}
 use Rattle.claims.proofs.Plain.{stands-in, free-so, lower-so}
 use Rattle.claims.proofs.Reasons.{Open, Reason, decided}
-use Rattle.claims.proofs.Ran.{Ran, ran-around, heard-answered}
-use Rattle.claims.proofs.Cut.{past-ran}
-use Rattle.claims.proofs.Demanded.{now-shows, history-then}
+use Rattle.claims.proofs.Ran.{Ran, heard-answered, stood}
+use Rattle.claims.proofs.Start.{start-valid}
+use Rattle.claims.proofs.Demanded.{start-count, start-shows, history-then, ran-split}
 
 -- the octets of a loser that is there
 loser-there : (p : Part) → p .present ≡ true → length (p .reference) ≡ 5 → loser p ≡ 1 ∷ p .reference
@@ -133,21 +135,26 @@ module _ (t : List ℕ) (p : Exchange) where
       subst (λ (z : Circuit). Stays (x c) z ⊎ Goes c (x c) p) (sym (heard-answered t p a c (x c) ∙ told-becomes x n e c o))
       (kept-or-goes c there o (decided records t e) a)
 
+-- from any valid table t, which shows circuits y
+module _ (t : List ℕ) (v : valid records t ≡ true) (y : ℕ → Circuit) (q : (c : ℕ) → c < length t / 32 → circuitAt t c ≡ y c) where
+  kept-within : (before : List Exchange) (p : Exchange) (later : List Exchange) (u : List ℕ) → Ran t (before ++ p ∷ later) u → (c : ℕ) → c < length t / 32 → historyFrom (y c) before c .reservation .present ≡ true → Stays (historyFrom (y c) before c) (heard p c (historyFrom (y c) before c)) ⊎ Goes c (historyFrom (y c) before c) p
+  kept-within before p later u ran c l there =
+      let s = stood p later u before t v y q ran in
+      let f = s .shows .tells c l in
+      subst (λ (z : Circuit). Stays z (heard p c z) ⊎ Goes c z p) f
+      (told-kept (s .table) p (s .answer) c (ap (λ (z : Circuit). z .reservation .present) f ∙ there))
+
 pub no-reservation-lost : NoReservationLost
 no-reservation-lost n calls before p later split c l there =
-    let a = ran-around before (emptyTable n) p later _ (subst (λ (ps : List Exchange). Ran (emptyTable n) ps (tableAfter (emptyTable n) calls)) split (past-ran calls (emptyTable n))) in
-    let q = now-shows n before (a .table) (a .earlier) c l in
     subst (λ (h : ℕ → Circuit). Stays (history before c) (h c) ⊎ Goes c (history before c) p) (sym (history-then before p))
-    (subst (λ (y : Circuit). Stays y (heard p c y) ⊎ Goes c y p) q
-    (told-kept (a .table) p (a .answer) c (ap (λ (y : Circuit). y .reservation .present) q ∙ there)))
+    (kept-within (emptyTable n) (start-valid n) (λ d. empty) (start-shows n) before p later (tableAfter (emptyTable n) calls) (ran-split n calls (before ++ p ∷ later) split) c (omega (arith, start-count n)) there)
 
 pub old-ones-go : OldOnesGo
 unfolding told
 old-ones-go p c y seven there =
     let e = asked p in
     let said : heard p c y ≡ cond (isOverdue (e .clock) y) (made e Cancel y) y = ap (λ (k : ℕ). told e k (answerPlace (p .answer)) c y) seven in
-    let by : (b : Bool) → isOverdue (e .clock) y ≡ b → heard p c y ≡ cond b (made e Cancel y) y = λ b q. said ∙ ap (λ (z : Bool). cond z (made e Cancel y) y) q in
-    (
+    let by : (b : Bool) → isOverdue (e .clock) y ≡ b → heard p c y ≡ cond b (made e Cancel y) y = λ b q. said ∙ ap (λ (z : Bool). cond z (made e Cancel y) y) q in (
       λ h. ap (λ (z : Circuit). z .reservation) (by true (old-overdue (e .clock) y there h)),
       λ h.
           let still = by false (not-so (isOverdue (e .clock) y) (λ q. h (overdue-old (e .clock) y q))) in

@@ -28,15 +28,16 @@ use Rattle.rules.specs.Answer.{nowhere, noLoser, losers, anothers, answerOf}
 use Rattle.rules.specs.Layout.{Layout}
 use Rattle.rules.specs.Valid.{valid}
 use Rattle.rules.specs.Run.{decide, answered, answer}
-use Rattle.rules.specs.Records.{circuitAt, flag, loser, answerOctets, eventAt, records}
+use Rattle.rules.specs.Records.{circuitAt, flag, loser, answerOctets, records}
 use Rattle.rules.proofs.Lawful.{Tidy}
 use Rattle.rules.proofs.Records.{lawful}
 use Rattle.rules.proofs.Searches.{first-none}
 use Rattle.rules.proofs.Choice.{ChoiceIs, choice-is}
 use Rattle.rules.proofs.Faults.{valid-facts}
-use Rattle.claims.specs.History.{Exchange, answerNumber, answerPlace, told, heard}
+use Rattle.claims.specs.History.{Exchange, asked, answerNumber, answerPlace, told, heard, historyFrom}
 use Rattle.claims.specs.Demand.{StandsIn, NewSetUp, ForWant, wantOctets, loserOctets, seizedOctets, Answered}
 use Rattle.claims.proofs.Heard.{told-refused, told-seized}
+use Rattle.claims.proofs.Ran.{Ran, stood}
 use Rattle.claims.proofs.Plain.{not-in, none-chosen, one-chosen, chosen-not-none}
 
 -- ---- in any layout: the choice decides
@@ -108,7 +109,7 @@ module _ (t : List ℕ) (v : valid records t ≡ true) (x : ℕ → Circuit) (q 
   n = length t / 32
 
   abbrev e : Event
-  e = eventAt (p .event)
+  e = asked p
 
   abbrev then-shown : ℕ → Circuit
   then-shown c = heard p c (x c)
@@ -184,3 +185,11 @@ module _ (t : List ℕ) (v : valid records t ≡ true) (x : ℕ → Circuit) (q 
           (a
           ∙ seized-octets (X i) i (e .reference) (length-span t (32 * i + 7) 5) (length-span t (32 * i + 12 + 7) 5) (lawful .tidy-view t i (valid-facts records t v .blank i l)) (not-in (e .reference) (X i .reservation) (over .reserves-nothing i l))
           ∙ ap (seizedOctets i) (q i l))
+
+-- ---- at any place of a past that began at a valid table t, which shows circuits y
+module _ (t : List ℕ) (v : valid records t ≡ true) (y : ℕ → Circuit) (q : (c : ℕ) → c < length t / 32 → circuitAt t c ≡ y c) where
+  pub served-within : (before : List Exchange) (p : Exchange) (later : List Exchange) (u : List ℕ) → Ran t (before ++ p ∷ later) u → NewSetUp (length t / 32) (λ c. historyFrom (y c) before c) (asked p) → Answered (length t / 32) (λ c. historyFrom (y c) before c) (λ c. heard p c (historyFrom (y c) before c)) (asked p) (p .answer)
+  served-within before p later u ran =
+      let s = stood p later u before t v y q ran in
+      let x : ℕ → Circuit = λ c. historyFrom (y c) before c in
+      subst (λ (m : ℕ). ((c : ℕ) → c < m / 32 → circuitAt (s .table) c ≡ x c) → NewSetUp (m / 32) x (asked p) → Answered (m / 32) x (λ c. heard p c (x c)) (asked p) (p .answer)) (s .shows .as-long) (λ f. served (s .table) (s .shows .still-valid) x f p (s .answer)) (s .shows .tells)

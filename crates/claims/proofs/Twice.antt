@@ -18,8 +18,7 @@ use Rattle.claims.specs.History.{history}
 use Rattle.claims.specs.Calls.{emptyTable, tableAfter, past}
 use Rattle.claims.specs.Demand.{StandsIn}
 use Rattle.claims.specs.Accidents.{InOnePart, NeverTwice}
-use Rattle.claims.proofs.Cut.{past-ran}
-use Rattle.claims.proofs.Demanded.{now-valid, now-count, now-shows}
+use Rattle.claims.proofs.Demanded.{now, now-count, history-tells}
 
 module _ (x : ℕ → Circuit) (n : ℕ) (u : Unique (partNo x) (2 * n)) (r : List ℕ) where
   apart : (j k : ℕ) → j < 2 * n → k < 2 * n → j ≢ k → StandsIn r (partNo x j) → StandsIn r (partNo x k) → ⊥
@@ -71,7 +70,7 @@ never-twice n calls r =
     let t = emptyTable n in
     let u = tableAfter t calls in
     let ps = past t calls in
-    let ran = past-ran calls t in
-    in-one-part-over (circuitAt u) (history ps) n (now-shows n ps u ran) r
-    (subst (λ (m : ℕ). InOnePart m (circuitAt u) r) (now-count n ps u ran)
-    (in-one-part (circuitAt u) (length u / 32) (valid-facts records u (now-valid n ps u ran) .unique) r))
+    let h = now n calls in
+    in-one-part-over (circuitAt u) (history ps) n (history-tells n calls) r
+    (subst (λ (m : ℕ). InOnePart m (circuitAt u) r) (now-count n calls)
+    (in-one-part (circuitAt u) (length u / 32) (valid-facts records u (h .still-valid) .unique) r))
