@@ -51,6 +51,12 @@ module _ (m : Mark) (y : Circuit) where
   abbrev levels : Bool
   levels = ltb (m .level .0) (standing y .level .0)
 
+  so-lower : Lower m y → takeable m y ≡ true
+  unfolding takeable
+  so-lower h =
+      and-both (not (free y)) (outranks m (standing y)) (ap not (not-so (free y) (λ f. h .taken (free-so y f))))
+      (and-both domains levels (ap (same (m .domain)) (h .domain) ∙ same-refl (m .domain)) (lt-ltb (m .level .0) (standing y .level .0) (h .level)))
+
   pub lower-so : takeable m y ≡ true → Lower m y
   unfolding takeable
   lower-so h =
@@ -60,12 +66,6 @@ module _ (m : Mark) (y : Circuit) where
         domain = sym (same-true (m .domain) (standing y .domain) (and-left domains levels o));
         level = ltb-true (m .level .0) (standing y .level .0) (and-right domains levels o);
       }
-
-  so-lower : Lower m y → takeable m y ≡ true
-  unfolding takeable
-  so-lower h =
-      and-both (not (free y)) (outranks m (standing y)) (ap not (not-so (free y) (λ f. h .taken (free-so y f))))
-      (and-both domains levels (ap (same (m .domain)) (h .domain) ∙ same-refl (m .domain)) (lt-ltb (m .level .0) (standing y .level .0) (h .level)))
 
   not-lower : takeable m y ≡ false → Lower m y → ⊥
   not-lower h l = true≢false (sym (so-lower l) ∙ h)

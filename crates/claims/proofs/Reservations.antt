@@ -49,10 +49,10 @@ module _ (clock : ℕ) (y : Circuit) where
   steps = age clock (y .clock)
 
   overdue-old : isOverdue clock y ≡ true → Old clock y
-  overdue-old h = leb-true limit steps (and-right (y .reservation .present) (leb limit steps) h)
+  overdue-old h = omega (arith, leb-true limit steps (and-right (y .reservation .present) (leb limit steps) h))
 
   old-overdue : y .reservation .present ≡ true → Old clock y → isOverdue clock y ≡ true
-  old-overdue there h = and-both (y .reservation .present) (leb limit steps) there (le-leb limit steps h)
+  old-overdue there h = and-both (y .reservation .present) (leb limit steps) there (le-leb limit steps (omega arith))
 
 -- ---- table t shows circuits x; p is an event over it with its answer
 module _ (t : List ℕ) (p : Exchange) where

@@ -3,7 +3,7 @@ use Prim.Native.Nat.{ℕ, _+_, _*_, _/_, _%_, _<_}
 use mathlib.Core.Path.{_≡_, refl, sym, ap, ap₂, _∙_, subst}
 use mathlib.Core.Logic.{_⊎_, inl, inr}
 use mathlib.Core.Bool.{Bool, true, false, cond, _||_}
-use mathlib.Core.List.{List, [], _∷_, _++_}
+use mathlib.Core.List.{List, _∷_, _++_}
 use native.Mathlib.Omega.{arith}
 use lib.ListN.{length, replicate}
 use lib.Dec.{eqb}
@@ -63,11 +63,11 @@ new-decided L s e v new =
     ∙ new-decision (L .view s) (L .count s) e new
 
 -- ---- the octets of the two answers
-want-octets : (b : Bool) → answerOctets (noLoser (refusalNumber (cond b NoCircuitForRoutine NoCircuit)) nowhere) ≡ cond b (30 ∷ 34 ∷ []) (31 ∷ 46 ∷ []) ++ 255 ∷ 255 ∷ replicate 12 0
+want-octets : (b : Bool) → answerOctets (noLoser (refusalNumber (cond b NoCircuitForRoutine NoCircuit)) nowhere) ≡ wantOctets b
 want-octets true = refl
 want-octets false = refl
 
-want-number : (b : Bool) → ForWant (cond b (30 ∷ 34 ∷ []) (31 ∷ 46 ∷ []) ++ 255 ∷ 255 ∷ replicate 12 0)
+want-number : (b : Bool) → ForWant (wantOctets b)
 want-number true = inl refl
 want-number false = inr refl
 
@@ -118,19 +118,6 @@ module _ (t : List ℕ) (v : valid records t ≡ true) (x : ℕ → Circuit) (q 
   heard-by : (k i : ℕ) → answerNumber (p .answer) ≡ k → answerPlace (p .answer) ≡ i → (c : ℕ) → then-shown c ≡ told e k i c (x c)
   heard-by k i a b c = ap₂ (λ (g h : ℕ). told e g h c (x c)) a b
 
-  refused : ChoiceIs (circuitAt t) n (e .mark) Nothing → p .answer ≡ wantOctets (e .mark) → Answered n x then-shown e (p .answer)
-  refused h a =
-      let want : ForWant (p .answer) = subst ForWant (sym a) (want-number (isRoutine (e .mark .level))) in
-      record {
-        exactly = (λ w. none-chosen (circuitAt t) x n q (e .mark) h, λ g. want);
-        refused = λ w. (a, λ c l. told-refused e (answerPlace (p .answer)) c (x c) (answerNumber (p .answer)) (high want));
-        otherwise = λ g. absurd (g want);
-      }
-    where
-      high : ForWant (p .answer) → 7 < answerNumber (p .answer)
-      high (inl z) = omega arith
-      high (inr z) = omega arith
-
   seized : (i : ℕ) → ChoiceIs (circuitAt t) n (e .mark) (At i) → p .answer ≡ seizedOctets i (x i) → Answered n x then-shown e (p .answer)
   seized i h a =
       let one = one-chosen (circuitAt t) x n q (e .mark) i h in
@@ -157,6 +144,19 @@ module _ (t : List ℕ) (v : valid records t ≡ true) (x : ℕ → Circuit) (q 
       after-seizure : (c : ℕ) → then-shown c ≡ cond (eqb i c) (made e Seize (x c)) (x c)
       after-seizure c =
           heard-by (cond lost 2 1) i (ap answerNumber a) (ap answerPlace a ∙ value-octets 1 i) c ∙ told-seized e i c (x c) lost
+
+  refused : ChoiceIs (circuitAt t) n (e .mark) Nothing → p .answer ≡ wantOctets (isRoutine (e .mark .level)) → Answered n x then-shown e (p .answer)
+  refused h a =
+      let want : ForWant (p .answer) = subst ForWant (sym a) (want-number (isRoutine (e .mark .level))) in
+      record {
+        exactly = (λ w. none-chosen (circuitAt t) x n q (e .mark) h, λ g. want);
+        refused = λ w. (a, λ c l. told-refused e (answerPlace (p .answer)) c (x c) (answerNumber (p .answer)) (high want));
+        otherwise = λ g. absurd (g want);
+      }
+    where
+      high : ForWant (p .answer) → 7 < answerNumber (p .answer)
+      high (inl z) = omega arith
+      high (inr z) = omega arith
 
   pub served : NewSetUp n x e → Answered n x then-shown e (p .answer)
   unfolding records answer answered answerOf

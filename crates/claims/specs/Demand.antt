@@ -6,10 +6,9 @@
 use Prim.Native.Nat.{ℕ, _/_, _%_, _<_, _≤_}
 use mathlib.Core.Path.{_≡_}
 use mathlib.Core.Logic.{_↔_, _≢_, _⊎_}
-use mathlib.Core.Bool.{true, cond, _||_}
+use mathlib.Core.Bool.{Bool, true, cond, _||_}
 use mathlib.Core.List.{List, [], _∷_, _++_}
 use lib.ListN.{length, replicate}
-use Rattle.rules.specs.declared.mark.Mark.{Mark}
 use Rattle.rules.specs.declared.part.Part.{Part}
 use Rattle.rules.specs.declared.circuit.Circuit.{Circuit}
 use Rattle.rules.specs.declared.event.Event.{Event}
@@ -42,8 +41,8 @@ abbrev pub ForWant : List ℕ → Type 0
 ForWant a = (answerNumber a ≡ 30) ⊎ (answerNumber a ≡ 31)
 
 -- the whole answer then: ROUTINE 30 with cause 34, others 31 with cause 46; 65535; zeros
-abbrev pub wantOctets : Mark → List ℕ
-wantOctets m = cond (isRoutine (m .level)) (30 ∷ 34 ∷ []) (31 ∷ 46 ∷ []) ++ 255 ∷ 255 ∷ replicate 12 0
+abbrev pub wantOctets : Bool → List ℕ
+wantOctets ofRoutine = cond ofRoutine (30 ∷ 34 ∷ []) (31 ∷ 46 ∷ []) ++ 255 ∷ 255 ∷ replicate 12 0
 
 -- a loser in an answer: 1 and its reference where a party stands, zeros where none does
 abbrev pub loserOctets : Part → List ℕ
@@ -70,7 +69,7 @@ pub record Answered (n : ℕ) (x y : ℕ → Circuit) (e : Event) (a : List ℕ)
   -- "is refused for want of a circuit exactly if none is free and none stands under a strictly lower precedence in the same domain"
   pub exactly : ForWant a ↔ (NoneFree x n × NoneLower x n (e .mark))
   -- the answer is then whole, and the history shows what it showed
-  pub refused : ForWant a → (a ≡ wantOctets (e .mark)) × ((c : ℕ) → c < n → y c ≡ x c)
+  pub refused : ForWant a → (a ≡ wantOctets (isRoutine (e .mark .level))) × ((c : ℕ) → c < n → y c ≡ x c)
   -- "else it gets .."
   pub otherwise : (ForWant a → ⊥) → Gets n x y e a
 
