@@ -71,7 +71,7 @@ module _ (t e place : List ℕ) (sixteen : length e ≡ 16) where
   abbrev next : Exchange
   next = record { event = e; answer = listAnswers t e place }
 
-  pub one-exchange : listLengths t e place ≡ true → exchanges t (record { events = e; places = place }) ≡ next ∷ []
+  one-exchange : listLengths t e place ≡ true → exchanges t (record { events = e; places = place }) ≡ next ∷ []
   unfolding exchanges listNumber
   one-exchange h =
       ap (λ (b : Bool). cond (eqb (cond b 0 lengthWrong) 0) (exchangesTo e (listAnswers t e place) (length e / 16)) []) h

@@ -24,7 +24,7 @@ use Rattle.rules.proofs.Lawful.{Lawful}
 use Rattle.rules.proofs.Kept.{view-after}
 use Rattle.claims.specs.History.{named, told}
 
-pub refusal-high : (r : Refusal) → 20 < refusalNumber r
+refusal-high : (r : Refusal) → 20 < refusalNumber r
 refusal-high Malformed = omega arith
 refusal-high TableNotValid = omega arith
 refusal-high NotAllowed = omega arith

@@ -24,9 +24,6 @@ module _ (r : List ℕ) (p : Part) where
   pub stands-in : isOf r p ≡ true → StandsIn r p
   stands-in h = (and-left (p .present) (same (p .reference) r) h, same-true (p .reference) r (and-right (p .present) (same (p .reference) r) h))
 
-  pub in-stands : StandsIn r p → isOf r p ≡ true
-  in-stands h = and-both (p .present) (same (p .reference) r) (h .0) (ap (same (p .reference)) (sym (h .1)) ∙ same-refl (p .reference))
-
   pub not-in : (StandsIn r p → ⊥) → isOf r p ≡ false
   not-in f = not-so (isOf r p) (λ h. f (stands-in h))
 
@@ -110,7 +107,7 @@ module _ (x y : ℕ → Circuit) (n : ℕ) (q : (c : ℕ) → c < n → x c ≡ 
                 (rather (x i) (x j) i j ne (f .2 j l (so-lower m (x j) (subst (Lower m) (sym (q j l)) g)))));
           }
 
-  -- not both
-  pub chosen-not-none : (i : ℕ) → FirstFree y n i ⊎ Lowest y n m i → NoneFree y n × NoneLower y n m → ⊥
-  chosen-not-none i (inl f) g = g .0 i (f .there) (f .free)
-  chosen-not-none i (inr f) g = g .1 i (f .there) (f .lower)
+-- not both
+pub chosen-not-none : (y : ℕ → Circuit) (n : ℕ) (m : Mark) (i : ℕ) → FirstFree y n i ⊎ Lowest y n m i → NoneFree y n × NoneLower y n m → ⊥
+chosen-not-none y n m i (inl f) g = g .0 i (f .there) (f .free)
+chosen-not-none y n m i (inr f) g = g .1 i (f .there) (f .lower)

@@ -128,7 +128,7 @@ module _ (t : List ℕ) (p : Exchange) where
         (λ z. inl (refl, refl))
 
   -- what the history tells of a circuit that it showed as the table does
-  pub told-kept : p .answer ≡ answer records t (p .event) → (c : ℕ) → x c .reservation .present ≡ true → Stays (x c) (heard p c (x c)) ⊎ Goes c (x c) p
+  told-kept : p .answer ≡ answer records t (p .event) → (c : ℕ) → x c .reservation .present ≡ true → Stays (x c) (heard p c (x c)) ⊎ Goes c (x c) p
   unfolding records answer answered
   told-kept a c there =
       let o = decide records t e in

@@ -56,7 +56,7 @@ module _ (x : ℕ → Circuit) (n : ℕ) (e : Event) (new : NewSetUp n x e) wher
   unfolding decision setUp
   new-decision = simp (new .set-up, no-holder, no-reservation)
 
-pub new-decided : {S : Type 0} (L : Layout S) (s : S) (e : Event) → valid L s ≡ true → NewSetUp (L .count s) (L .view s) e → decide L s e ≡ found (choice (L .view s) (L .count s) (e .mark)) (Do Seize) (Refuse (blocked e))
+new-decided : {S : Type 0} (L : Layout S) (s : S) (e : Event) → valid L s ≡ true → NewSetUp (L .count s) (L .view s) e → decide L s e ≡ found (choice (L .view s) (L .count s) (e .mark)) (Do Seize) (Refuse (blocked e))
 unfolding decide
 new-decided L s e v new =
     ap₂ (λ (a b : Bool). unless a Malformed (unless b TableNotValid (decision (L .view s) (L .count s) e))) (new .well-formed) v
@@ -122,7 +122,7 @@ module _ (t : List ℕ) (v : valid records t ≡ true) (x : ℕ → Circuit) (q 
   seized i h a =
       let one = one-chosen (circuitAt t) x n q (e .mark) i h in
       record {
-        exactly = (λ w. absurd (not-want w), λ g. absurd (chosen-not-none (circuitAt t) x n q (e .mark) i one g));
+        exactly = (λ w. absurd (not-want w), λ g. absurd (chosen-not-none x n (e .mark) i one g));
         refused = λ w. absurd (not-want w);
         otherwise =
             λ g.
@@ -158,7 +158,7 @@ module _ (t : List ℕ) (v : valid records t ≡ true) (x : ℕ → Circuit) (q 
       high (inl z) = omega arith
       high (inr z) = omega arith
 
-  pub served : NewSetUp n x e → Answered n x then-shown e (p .answer)
+  served : NewSetUp n x e → Answered n x then-shown e (p .answer)
   unfolding records answer answered answerOf
   served new = go (choice X n (e .mark)) (choice-is X n (e .mark)) (told-so ∙ ap answerOctets said)
     where

@@ -10,7 +10,8 @@ use Rattle.rules.specs.Circuit.{standing}
 abbrev pub Free : Circuit → Type 0  -- a circuit is free if it has neither part
 Free y = (y .holder .present ≡ false) × (y .reservation .present ≡ false)
 
--- circuit y stands under a strictly lower precedence than mark m in the same domain: the level of its standing mark has the greater number
+-- circuit y stands under a strictly lower precedence than mark m in the same domain: its standing mark is the reservation's if there is
+-- one, else the holder's, and the lower precedence has the greater level number
 pub record Lower (m : Mark) (y : Circuit) : Type 0 where
   pub taken : Free y → ⊥
   pub domain : standing y .domain ≡ m .domain

@@ -68,7 +68,7 @@ pub record Gets (n : ℕ) (x y : ℕ → Circuit) (e : Event) (a : List ℕ) : T
 pub record Answered (n : ℕ) (x y : ℕ → Circuit) (e : Event) (a : List ℕ) : Type 0 where
   -- "is refused for want of a circuit exactly if none is free and none stands under a strictly lower precedence in the same domain"
   pub exactly : ForWant a ↔ (NoneFree x n × NoneLower x n (e .mark))
-  -- the answer is then whole, and the history shows what it showed
+  -- that is then the whole answer, and the history shows what it showed
   pub refused : ForWant a → (a ≡ wantOctets (isRoutine (e .mark .level))) × ((c : ℕ) → c < n → y c ≡ x c)
   -- "else it gets .."
   pub otherwise : (ForWant a → ⊥) → Gets n x y e a

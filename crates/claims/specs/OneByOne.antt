@@ -1,11 +1,10 @@
 -- What holds of every table, one that is not valid too: a list is its events one by one, validity is kept, and a refusal changes nothing.
-use Prim.Native.Nat.{ℕ, _<_, _≤_}
+use Prim.Native.Nat.{ℕ, _≤_}
 use mathlib.Core.Path.{_≡_}
 use mathlib.Core.Logic.{_≢_}
 use mathlib.Core.List.{List, [], _∷_}
 use lib.ListN.{length, replicate}
 use Rattle.rules.specs.declared.circuit.Circuit.{Circuit}
-use Rattle.rules.specs.Numbers.{causeOf}
 use Rattle.rules.specs.Records.{checkNumber}
 use Rattle.route.specs.Entries.{eventNumber, eventTable, eventAnswer, listNumber, listTable, listAnswers}
 use Rattle.claims.specs.History.{Exchange, answerNumber, heard}
@@ -51,12 +50,7 @@ RefusalKeepsTable = (t e place : List ℕ) → 20 ≤ eventNumber t e place → 
 abbrev pub RefusalKeepsHistory : Type 0
 RefusalKeepsHistory = (p : Exchange) (c : ℕ) (y : Circuit) → 20 ≤ answerNumber (p .answer) → heard p c y ≡ y
 
--- "every other refusal writes the answer: number, cause, 65535, zeros"
-abbrev pub RefusalAnswer : Type 0
-RefusalAnswer =
-    (t e place : List ℕ) → 20 < eventNumber t e place → eventAnswer t e place ≡ eventNumber t e place ∷ causeOf (eventNumber t e place) ∷ 255 ∷ 255 ∷ replicate 12 0
-
--- "at 20 no buffer is written"
+-- nor does a list that is refused by 20 write anything
 abbrev pub RefusedList : Type 0
 RefusedList =
     (t es places : List ℕ) → listNumber t es places ≡ 20 → (listTable t es places ≡ t) × (listAnswers t es places ≡ places)
