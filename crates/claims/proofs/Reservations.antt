@@ -137,7 +137,10 @@ module _ (t : List ℕ) (p : Exchange) where
 
 -- from any valid table t, which shows circuits y
 module _ (t : List ℕ) (v : valid records t ≡ true) (y : ℕ → Circuit) (q : (c : ℕ) → c < length t / 32 → circuitAt t c ≡ y c) where
-  kept-within : (before : List Exchange) (p : Exchange) (later : List Exchange) (u : List ℕ) → Ran t (before ++ p ∷ later) u → (c : ℕ) → c < length t / 32 → historyFrom (y c) before c .reservation .present ≡ true → Stays (historyFrom (y c) before c) (heard p c (historyFrom (y c) before c)) ⊎ Goes c (historyFrom (y c) before c) p
+  abbrev since : List Exchange → ℕ → Circuit
+  since ps c = historyFrom (y c) ps c
+
+  kept-within : (before : List Exchange) (p : Exchange) (later : List Exchange) (u : List ℕ) → Ran t (before ++ p ∷ later) u → (c : ℕ) → c < length t / 32 → since before c .reservation .present ≡ true → Stays (since before c) (heard p c (since before c)) ⊎ Goes c (since before c) p
   kept-within before p later u ran c l there =
       let s = stood p later u before t v y q ran in
       let f = s .shows .tells c l in

@@ -188,8 +188,13 @@ module _ (t : List ℕ) (v : valid records t ≡ true) (x : ℕ → Circuit) (q 
 
 -- ---- at any place of a past that began at a valid table t, which shows circuits y
 module _ (t : List ℕ) (v : valid records t ≡ true) (y : ℕ → Circuit) (q : (c : ℕ) → c < length t / 32 → circuitAt t c ≡ y c) where
-  pub served-within : (before : List Exchange) (p : Exchange) (later : List Exchange) (u : List ℕ) → Ran t (before ++ p ∷ later) u → NewSetUp (length t / 32) (λ c. historyFrom (y c) before c) (asked p) → Answered (length t / 32) (λ c. historyFrom (y c) before c) (λ c. heard p c (historyFrom (y c) before c)) (asked p) (p .answer)
+  abbrev since : List Exchange → ℕ → Circuit
+  since ps c = historyFrom (y c) ps c
+
+  pub served-within : (before : List Exchange) (p : Exchange) (later : List Exchange) (u : List ℕ) → Ran t (before ++ p ∷ later) u → NewSetUp (length t / 32) (since before) (asked p) → Answered (length t / 32) (since before) (λ c. heard p c (since before c)) (asked p) (p .answer)
   served-within before p later u ran =
       let s = stood p later u before t v y q ran in
-      let x : ℕ → Circuit = λ c. historyFrom (y c) before c in
-      subst (λ (m : ℕ). ((c : ℕ) → c < m / 32 → circuitAt (s .table) c ≡ x c) → NewSetUp (m / 32) x (asked p) → Answered (m / 32) x (λ c. heard p c (x c)) (asked p) (p .answer)) (s .shows .as-long) (λ f. served (s .table) (s .shows .still-valid) x f p (s .answer)) (s .shows .tells)
+      let x : ℕ → Circuit = since before in
+      let then-shown : ℕ → Circuit = λ c. heard p c (x c) in
+      subst (λ (m : ℕ). ((c : ℕ) → c < m / 32 → circuitAt (s .table) c ≡ x c) → NewSetUp (m / 32) x (asked p) → Answered (m / 32) x then-shown (asked p) (p .answer)) (s .shows .as-long)
+      (λ f. served (s .table) (s .shows .still-valid) x f p (s .answer)) (s .shows .tells)
