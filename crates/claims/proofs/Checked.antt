@@ -14,7 +14,7 @@ use Rattle.rules.specs.Records.{records, tableLength, checkNumber}
 use Rattle.rules.proofs.Records.{lawful}
 use Rattle.rules.proofs.Kept.{valid-after, run-valid}
 use Rattle.route.specs.Entries.{eventLengths, eventsIn, listLengths, listTable}
-use Rattle.claims.specs.Calls.{emptyTable, tableAfter}
+use Rattle.claims.specs.Lists.{emptyTable, tableAfter}
 use Rattle.claims.specs.OneByOne.{EventKeepsValid, ListKeepsValid, AlwaysValid}
 use Rattle.claims.proofs.Octets.{length-after, length-run}
 use Rattle.claims.proofs.Refused.{table-then, table-stays}
@@ -47,8 +47,8 @@ list-keeps-valid t es places = go (listLengths t es places)
 
 pub always-valid : AlwaysValid
 unfolding checkNumber valid
-always-valid n one many calls =
+always-valid n one many lists =
     let t = emptyTable n in
-    let u = tableAfter t calls in
-    ap₂ (λ (b : Bool) (k : ℕ). cond b k lengthWrong) (table-length u n (now-long n calls) one many)
-    (same-number (verdict records u) Valid (now n calls .still-valid))
+    let u = tableAfter t lists in
+    ap₂ (λ (b : Bool) (k : ℕ). cond b k lengthWrong) (table-length u n (now-long n lists) one many)
+    (same-number (verdict records u) Valid (now n lists .still-valid))

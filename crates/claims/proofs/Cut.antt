@@ -1,4 +1,4 @@
--- The answers that a list leaves, cut into records of 16 octets, are those to its events one by one; so calls of the list entry are one run.
+-- The answers that a list leaves, cut into records of 16 octets, are those to its events one by one; so lists one after another are one run.
 use Prim.Native.Nat.{ℕ, zero, suc, _+_, _*_, _/_, _<_, _≤_}
 use mathlib.Core.Path.{_≡_, refl, sym, ap, _∙_}
 use mathlib.Core.Bool.{Bool, true, false, cond}
@@ -15,8 +15,8 @@ use Rattle.rules.specs.Run.{answer, run, answers}
 use Rattle.rules.specs.Records.{records}
 use Rattle.rules.proofs.Kept.{run-append, answers-append}
 use Rattle.route.specs.Entries.{eventsTo, eventsIn, listLengths, listNumber, listTable, listAnswers}
-use Rattle.claims.specs.History.{Exchange}
-use Rattle.claims.specs.Calls.{Call, exchangesTo, exchanges, tableAfter, past}
+use Rattle.claims.specs.History.{Turn}
+use Rattle.claims.specs.Lists.{EventList, turnsTo, turns, tableAfter, past}
 use Rattle.claims.proofs.Octets.{length-answer}
 use Rattle.claims.proofs.Ran.{Ran, ran-append}
 
@@ -67,15 +67,15 @@ module _ (t es : List ℕ) where
       ∙ span-all a 16 (length-answer (tableTo n) (eventNo n)))
       m l
 
-  ran-to : (n m : ℕ) → m ≤ n → Ran t (exchangesTo es (answersTo n) m) (tableTo m)
+  ran-to : (n m : ℕ) → m ≤ n → Ran t (turnsTo es (answersTo n) m) (tableTo m)
   ran-to n zero l = refl
   ran-to n (suc m) l =
-      ran-append (exchangesTo es (answersTo n) m) (record { event = eventNo m; answer = span (answersTo n) (16 * m) 16 } ∷ []) t (tableTo m) (tableTo (suc m)) (ran-to n m (omega arith)) (answer-at n m l, sym (run-append records (eventsTo es m) (eventNo m ∷ []) t))
+      ran-append (turnsTo es (answersTo n) m) (record { event = eventNo m; answer = span (answersTo n) (16 * m) 16 } ∷ []) t (tableTo m) (tableTo (suc m)) (ran-to n m (omega arith)) (answer-at n m l, sym (run-append records (eventsTo es m) (eventNo m ∷ []) t))
 
--- ---- calls
-pub call-ran : (t : List ℕ) (k : Call) → Ran t (exchanges t k) (listTable t (k .events) (k .places))
-unfolding exchanges listNumber listTable listAnswers eventsIn
-call-ran t k = go (listLengths t es (k .places))
+-- ---- lists
+pub list-ran : (t : List ℕ) (k : EventList) → Ran t (turns t k) (listTable t (k .events) (k .places))
+unfolding turns listNumber listTable listAnswers eventsIn
+list-ran t k = go (listLengths t es (k .places))
   where
     es : List ℕ
     es = k .events
@@ -83,15 +83,15 @@ call-ran t k = go (listLengths t es (k .places))
     n : ℕ
     n = length es / 16
 
-    go : (b : Bool) → Ran t (cond (eqb (cond b 0 lengthWrong) 0) (exchangesTo es (cond b (answersTo t es n) (k .places)) n) []) (cond b (tableTo t es n) t)
+    go : (b : Bool) → Ran t (cond (eqb (cond b 0 lengthWrong) 0) (turnsTo es (cond b (answersTo t es n) (k .places)) n) []) (cond b (tableTo t es n) t)
     go true = ran-to t es n n (omega arith)
     go false = refl
 
-pub past-ran : (calls : List Call) (t : List ℕ) → Ran t (past t calls) (tableAfter t calls)
+pub past-ran : (lists : List EventList) (t : List ℕ) → Ran t (past t lists) (tableAfter t lists)
 past-ran [] t = refl
 past-ran (k ∷ ks) t =
     let u = listTable t (k .events) (k .places) in
-    ran-append (exchanges t k) (past u ks) t u (tableAfter u ks) (call-ran t k) (past-ran ks u)
+    ran-append (turns t k) (past u ks) t u (tableAfter u ks) (list-ran t k) (past-ran ks u)
 
 -- a list that is carried out leaves 16 octets for each event
 pub length-left : (t es places : List ℕ) → listLengths t es places ≡ true → length (listAnswers t es places) ≡ 16 * (length es / 16)
@@ -99,9 +99,9 @@ unfolding listAnswers eventsIn
 length-left t es places h =
     ap (λ (b : Bool). length (cond b (answersTo t es (length es / 16)) places)) h ∙ length-answers t es (length es / 16)
 
--- calls, and one more
-pub past-append : (ks ls : List Call) (t : List ℕ) → past t (ks ++ ls) ≡ past t ks ++ past (tableAfter t ks) ls
+-- lists, and one more
+pub past-append : (ks ls : List EventList) (t : List ℕ) → past t (ks ++ ls) ≡ past t ks ++ past (tableAfter t ks) ls
 past-append [] ls t = refl
 past-append (k ∷ ks) ls t =
     let u = listTable t (k .events) (k .places) in
-    ap (λ (ps : List Exchange). exchanges t k ++ ps) (past-append ks ls u) ∙ sym (append-assoc (exchanges t k) (past u ks) (past (tableAfter u ks) ls))
+    ap (λ (ps : List Turn). turns t k ++ ps) (past-append ks ls u) ∙ sym (append-assoc (turns t k) (past u ks) (past (tableAfter u ks) ls))

@@ -14,8 +14,8 @@ use Rattle.rules.specs.Numbers.{lengthWrong}
 use Rattle.rules.specs.Run.{answer}
 use Rattle.rules.specs.Records.{circuitAt, eventAt, tableLength, listLength}
 use Rattle.route.specs.Entries.{listLengths, listNumber, listAnswers}
-use Rattle.claims.specs.History.{Exchange, asked, empty, heard, historyFrom, history}
-use Rattle.claims.specs.Calls.{Call, emptyTable, exchangesTo, exchanges, tableAfter, past}
+use Rattle.claims.specs.History.{Turn, asked, empty, heard, historyFrom, history}
+use Rattle.claims.specs.Lists.{EventList, emptyTable, turnsTo, turns, tableAfter, past}
 use Rattle.claims.specs.Demand.{HistoryTells, NewSetUp, Answered, Demand3, Demand3Within}
 use Rattle.claims.proofs.Ran.{Ran, Shown, shown}
 use Rattle.claims.proofs.Cut.{past-ran, length-left, past-append}
@@ -33,49 +33,49 @@ module _ (n : ℕ) where
   pub start-shows : (c : ℕ) → c < length (emptyTable n) / 32 → circuitAt (emptyTable n) c ≡ empty
   start-shows c l = circuit-empty n c
 
-  module _ (calls : List Call) where
-    pub now : Shown (emptyTable n) (λ c. empty) (past (emptyTable n) calls) (tableAfter (emptyTable n) calls)
+  module _ (lists : List EventList) where
+    pub now : Shown (emptyTable n) (λ c. empty) (past (emptyTable n) lists) (tableAfter (emptyTable n) lists)
     now =
-        shown (past (emptyTable n) calls) (emptyTable n) (tableAfter (emptyTable n) calls) (start-valid n) (λ c. empty) start-shows (past-ran calls (emptyTable n))
+        shown (past (emptyTable n) lists) (emptyTable n) (tableAfter (emptyTable n) lists) (start-valid n) (λ c. empty) start-shows (past-ran lists (emptyTable n))
 
-    pub now-long : length (tableAfter (emptyTable n) calls) ≡ 32 * n
+    pub now-long : length (tableAfter (emptyTable n) lists) ≡ 32 * n
     now-long = now .as-long ∙ start-long
 
-    pub now-count : length (tableAfter (emptyTable n) calls) / 32 ≡ n
+    pub now-count : length (tableAfter (emptyTable n) lists) / 32 ≡ n
     now-count = omega (arith, now-long)
 
 pub history-tells : HistoryTells
-history-tells n calls c l = now n calls .tells c (omega (arith, start-count n))
+history-tells n lists c l = now n lists .tells c (omega (arith, start-count n))
 
--- ---- one exchange more
-history-append : (ps qs : List Exchange) (y : Circuit) (c : ℕ) → historyFrom y (ps ++ qs) c ≡ historyFrom (historyFrom y ps c) qs c
+-- ---- one turn more
+history-append : (ps qs : List Turn) (y : Circuit) (c : ℕ) → historyFrom y (ps ++ qs) c ≡ historyFrom (historyFrom y ps c) qs c
 history-append [] qs y c = refl
 history-append (p ∷ ps) qs y c = history-append ps qs (heard p c y) c
 
-pub history-then : (ps : List Exchange) (p : Exchange) → history (ps ++ p ∷ []) ≡ (λ c. heard p c (history ps c))
+pub history-then : (ps : List Turn) (p : Turn) → history (ps ++ p ∷ []) ≡ (λ c. heard p c (history ps c))
 history-then ps p = λ d c. history-append ps (p ∷ []) empty c d
 
 -- a past taken apart was still run
-pub ran-split : (n : ℕ) (calls : List Call) (ps : List Exchange) → past (emptyTable n) calls ≡ ps → Ran (emptyTable n) ps (tableAfter (emptyTable n) calls)
-ran-split n calls ps split =
-    subst (λ (qs : List Exchange). Ran (emptyTable n) qs (tableAfter (emptyTable n) calls)) split (past-ran calls (emptyTable n))
+pub ran-split : (n : ℕ) (lists : List EventList) (ps : List Turn) → past (emptyTable n) lists ≡ ps → Ran (emptyTable n) ps (tableAfter (emptyTable n) lists)
+ran-split n lists ps split =
+    subst (λ (qs : List Turn). Ran (emptyTable n) qs (tableAfter (emptyTable n) lists)) split (past-ran lists (emptyTable n))
 
 pub demand-3-within : Demand3Within
-demand-3-within n calls before p later split new =
+demand-3-within n lists before p later split new =
     subst (λ (y : ℕ → Circuit). Answered n (history before) y (asked p) (p .answer)) (sym (history-then before p))
     (subst (λ (m : ℕ). NewSetUp m (history before) (asked p) → Answered m (history before) (λ c. heard p c (history before c)) (asked p) (p .answer)) (start-count n)
-    (served-within (emptyTable n) (start-valid n) (λ c. empty) (start-shows n) before p later (tableAfter (emptyTable n) calls) (ran-split n calls (before ++ p ∷ later) split)) new)
+    (served-within (emptyTable n) (start-valid n) (λ c. empty) (start-shows n) before p later (tableAfter (emptyTable n) lists) (ran-split n lists (before ++ p ∷ later) split)) new)
 
 -- ---- the next list, of one event
 module _ (t e place : List ℕ) (sixteen : length e ≡ 16) where
-  abbrev next : Exchange
+  abbrev next : Turn
   next = record { event = e; answer = listAnswers t e place }
 
-  one-exchange : listLengths t e place ≡ true → exchanges t (record { events = e; places = place }) ≡ next ∷ []
-  unfolding exchanges listNumber
-  one-exchange h =
-      ap (λ (b : Bool). cond (eqb (cond b 0 lengthWrong) 0) (exchangesTo e (listAnswers t e place) (length e / 16)) []) h
-      ∙ ap (λ (m : ℕ). exchangesTo e (listAnswers t e place) (m / 16)) sixteen
+  one-turn : listLengths t e place ≡ true → turns t (record { events = e; places = place }) ≡ next ∷ []
+  unfolding turns listNumber
+  one-turn h =
+      ap (λ (b : Bool). cond (eqb (cond b 0 lengthWrong) 0) (turnsTo e (listAnswers t e place) (length e / 16)) []) h
+      ∙ ap (λ (m : ℕ). turnsTo e (listAnswers t e place) (m / 16)) sixteen
       ∙ (λ d.
       record {
         event = span-all e 16 sixteen d;
@@ -96,12 +96,12 @@ one-lengths t e place right sixteen room =
     and-both (tableLength (length t)) (listLength (length e) (length place)) right (ap₂ listLength sixteen room)
 
 pub demand-3 : Demand3
-demand-3 n one many calls e place sixteen room new =
+demand-3 n one many lists e place sixteen room new =
     let t = emptyTable n in
-    let u = tableAfter t calls in
-    let k : Call = record { events = e; places = place } in
-    let p : Exchange = record { event = e; answer = listAnswers u e place } in
-    let lengths = one-lengths u e place (table-length u n (now-long n calls) one many) sixteen room in
-    let split : past t (calls ++ k ∷ []) ≡ past t calls ++ p ∷ [] = past-append calls (k ∷ []) t ∙ ap (λ (ps : List Exchange). past t calls ++ ps) (append-nil (exchanges u k) ∙ one-exchange u e place sixteen lengths) in
-    subst (λ (ps : List Exchange). Answered n (history (past t calls)) (history ps) (eventAt e) (listAnswers u e place)) (sym split)
-    (demand-3-within n (calls ++ k ∷ []) (past t calls) p [] split new)
+    let u = tableAfter t lists in
+    let k : EventList = record { events = e; places = place } in
+    let p : Turn = record { event = e; answer = listAnswers u e place } in
+    let lengths = one-lengths u e place (table-length u n (now-long n lists) one many) sixteen room in
+    let split : past t (lists ++ k ∷ []) ≡ past t lists ++ p ∷ [] = past-append lists (k ∷ []) t ∙ ap (λ (ps : List Turn). past t lists ++ ps) (append-nil (turns u k) ∙ one-turn u e place sixteen lengths) in
+    subst (λ (ps : List Turn). Answered n (history (past t lists)) (history ps) (eventAt e) (listAnswers u e place)) (sym split)
+    (demand-3-within n (lists ++ k ∷ []) (past t lists) p [] split new)

@@ -13,7 +13,7 @@ use Rattle.rules.specs.declared.circuit.Circuit.{Circuit}
 use Rattle.rules.specs.Records.{circuitAt, blankPart, blankAt, records}
 use Rattle.rules.proofs.Faults.{valid-facts}
 use Rattle.claims.specs.History.{history}
-use Rattle.claims.specs.Calls.{emptyTable, tableAfter, past}
+use Rattle.claims.specs.Lists.{emptyTable, tableAfter, past}
 use Rattle.claims.specs.Accidents.{OnlyWithParty, NoMarkLeft}
 use Rattle.claims.proofs.Demanded.{now, now-count, history-tells}
 
@@ -38,9 +38,9 @@ only-with-party t c y h s =
 
 pub no-mark-left : NoMarkLeft
 unfolding records
-no-mark-left n calls c l =
+no-mark-left n lists c l =
     let t = emptyTable n in
-    let u = tableAfter t calls in
-    let ps = past t calls in
-    let h = now n calls in
-    only-with-party u c (history ps c) (valid-facts records u (h .still-valid) .blank c (omega (arith, now-count n calls))) (history-tells n calls c l)
+    let u = tableAfter t lists in
+    let ps = past t lists in
+    let h = now n lists in
+    only-with-party u c (history ps c) (valid-facts records u (h .still-valid) .blank c (omega (arith, now-count n lists))) (history-tells n lists c l)

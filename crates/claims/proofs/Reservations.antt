@@ -1,4 +1,4 @@
--- The second accident cannot happen: by which exchange a reservation goes.
+-- The second accident cannot happen: by which turn a reservation goes.
 use Prim.Native.Nat.{ℕ, _+_, _*_, _/_, _<_}
 use mathlib.Core.Path.{_≡_, refl, sym, ap, ap₂, _∙_, subst}
 use mathlib.Core.Logic.{⊎-elim, _⊎_, inl, inr}
@@ -25,8 +25,8 @@ use Rattle.rules.specs.Answer.{becomes, anothers, answerOf}
 use Rattle.rules.specs.Valid.{valid}
 use Rattle.rules.specs.Run.{decide, answered, answer}
 use Rattle.rules.specs.Records.{circuitAt, flag, loser, answerOctets, eventAt, records}
-use Rattle.claims.specs.History.{Exchange, asked, answerNumber, answerPlace, told, heard, empty, historyFrom, history}
-use Rattle.claims.specs.Calls.{emptyTable, tableAfter}
+use Rattle.claims.specs.History.{Turn, asked, answerNumber, answerPlace, told, heard, empty, historyFrom, history}
+use Rattle.claims.specs.Lists.{emptyTable, tableAfter}
 use Rattle.claims.specs.Accidents.{Old, Goes, own-set-up, cancelled, higher-call, overdue, Stays, NoReservationLost, OldOnesGo}
 use Rattle.claims.proofs.Heard.{told-becomes}
 use Rattle.claims.proofs.Plain.{stands-in, free-so, lower-so}
@@ -55,7 +55,7 @@ module _ (clock : ℕ) (y : Circuit) where
   old-overdue there h = and-both (y .reservation .present) (leb limit steps) there (le-leb limit steps (omega arith))
 
 -- ---- table t shows circuits x; p is an event over it with its answer
-module _ (t : List ℕ) (p : Exchange) where
+module _ (t : List ℕ) (p : Turn) where
   abbrev x : ℕ → Circuit
   x = circuitAt t
 
@@ -137,10 +137,10 @@ module _ (t : List ℕ) (p : Exchange) where
 
 -- from any valid table t, which shows circuits y
 module _ (t : List ℕ) (v : valid records t ≡ true) (y : ℕ → Circuit) (q : (c : ℕ) → c < length t / 32 → circuitAt t c ≡ y c) where
-  abbrev since : List Exchange → ℕ → Circuit
+  abbrev since : List Turn → ℕ → Circuit
   since ps c = historyFrom (y c) ps c
 
-  kept-within : (before : List Exchange) (p : Exchange) (later : List Exchange) (u : List ℕ) → Ran t (before ++ p ∷ later) u → (c : ℕ) → c < length t / 32 → since before c .reservation .present ≡ true → Stays (since before c) (heard p c (since before c)) ⊎ Goes c (since before c) p
+  kept-within : (before : List Turn) (p : Turn) (later : List Turn) (u : List ℕ) → Ran t (before ++ p ∷ later) u → (c : ℕ) → c < length t / 32 → since before c .reservation .present ≡ true → Stays (since before c) (heard p c (since before c)) ⊎ Goes c (since before c) p
   kept-within before p later u ran c l there =
       let s = stood p later u before t v y q ran in
       let f = s .shows .tells c l in
@@ -148,9 +148,9 @@ module _ (t : List ℕ) (v : valid records t ≡ true) (y : ℕ → Circuit) (q 
       (told-kept (s .table) p (s .answer) c (ap (λ (z : Circuit). z .reservation .present) f ∙ there))
 
 pub no-reservation-lost : NoReservationLost
-no-reservation-lost n calls before p later split c l there =
+no-reservation-lost n lists before p later split c l there =
     subst (λ (h : ℕ → Circuit). Stays (history before c) (h c) ⊎ Goes c (history before c) p) (sym (history-then before p))
-    (kept-within (emptyTable n) (start-valid n) (λ d. empty) (start-shows n) before p later (tableAfter (emptyTable n) calls) (ran-split n calls (before ++ p ∷ later) split) c (omega (arith, start-count n)) there)
+    (kept-within (emptyTable n) (start-valid n) (λ d. empty) (start-shows n) before p later (tableAfter (emptyTable n) lists) (ran-split n lists (before ++ p ∷ later) split) c (omega (arith, start-count n)) there)
 
 pub old-ones-go : OldOnesGo
 unfolding told

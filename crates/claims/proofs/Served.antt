@@ -34,7 +34,7 @@ use Rattle.rules.proofs.Records.{lawful}
 use Rattle.rules.proofs.Searches.{first-none}
 use Rattle.rules.proofs.Choice.{ChoiceIs, choice-is}
 use Rattle.rules.proofs.Faults.{valid-facts}
-use Rattle.claims.specs.History.{Exchange, asked, answerNumber, answerPlace, told, heard, historyFrom}
+use Rattle.claims.specs.History.{Turn, asked, answerNumber, answerPlace, told, heard, historyFrom}
 use Rattle.claims.specs.Demand.{StandsIn, NewSetUp, ForWant, wantOctets, loserOctets, seizedOctets, Answered}
 use Rattle.claims.proofs.Heard.{told-refused, told-seized}
 use Rattle.claims.proofs.Ran.{Ran, stood}
@@ -104,7 +104,7 @@ module _ (y : Circuit) (i : ℕ) (r : List ℕ) where
       cause false = refl
 
 -- ---- over a valid table t, circuit by circuit as x says; p is the set-up with its answer
-module _ (t : List ℕ) (v : valid records t ≡ true) (x : ℕ → Circuit) (q : (c : ℕ) → c < length t / 32 → circuitAt t c ≡ x c) (p : Exchange) (told-so : p .answer ≡ answer records t (p .event)) where
+module _ (t : List ℕ) (v : valid records t ≡ true) (x : ℕ → Circuit) (q : (c : ℕ) → c < length t / 32 → circuitAt t c ≡ x c) (p : Turn) (told-so : p .answer ≡ answer records t (p .event)) where
   abbrev n : ℕ
   n = length t / 32
 
@@ -188,10 +188,10 @@ module _ (t : List ℕ) (v : valid records t ≡ true) (x : ℕ → Circuit) (q 
 
 -- ---- at any place of a past that began at a valid table t, which shows circuits y
 module _ (t : List ℕ) (v : valid records t ≡ true) (y : ℕ → Circuit) (q : (c : ℕ) → c < length t / 32 → circuitAt t c ≡ y c) where
-  abbrev since : List Exchange → ℕ → Circuit
+  abbrev since : List Turn → ℕ → Circuit
   since ps c = historyFrom (y c) ps c
 
-  pub served-within : (before : List Exchange) (p : Exchange) (later : List Exchange) (u : List ℕ) → Ran t (before ++ p ∷ later) u → NewSetUp (length t / 32) (since before) (asked p) → Answered (length t / 32) (since before) (λ c. heard p c (since before c)) (asked p) (p .answer)
+  pub served-within : (before : List Turn) (p : Turn) (later : List Turn) (u : List ℕ) → Ran t (before ++ p ∷ later) u → NewSetUp (length t / 32) (since before) (asked p) → Answered (length t / 32) (since before) (λ c. heard p c (since before c)) (asked p) (p .answer)
   served-within before p later u ran =
       let s = stood p later u before t v y q ran in
       let x : ℕ → Circuit = since before in

@@ -18,7 +18,7 @@ use Rattle.rules.specs.Valid.{levelsOk, fieldsOk, pairOk, partNo, clash, valid}
 use Rattle.rules.specs.Records.{partAt, circuitAt, flagsAt, blankAt, records}
 use Rattle.rules.proofs.Faults.{facts-valid}
 use Rattle.claims.specs.History.{empty}
-use Rattle.claims.specs.Calls.{emptyTable}
+use Rattle.claims.specs.Lists.{emptyTable}
 
 module _ (n : ℕ) where
   zero-at : (i : ℕ) → getD (emptyTable n) i 0 ≡ 0

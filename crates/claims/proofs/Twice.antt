@@ -15,7 +15,7 @@ use Rattle.rules.specs.Valid.{partNo}
 use Rattle.rules.specs.Records.{circuitAt, records}
 use Rattle.rules.proofs.Faults.{Unique, valid-facts}
 use Rattle.claims.specs.History.{history}
-use Rattle.claims.specs.Calls.{emptyTable, tableAfter, past}
+use Rattle.claims.specs.Lists.{emptyTable, tableAfter, past}
 use Rattle.claims.specs.Demand.{StandsIn}
 use Rattle.claims.specs.Accidents.{InOnePart, NeverTwice}
 use Rattle.claims.proofs.Demanded.{now, now-count, history-tells}
@@ -66,11 +66,11 @@ in-one-part-over x y n s r h =
 
 pub never-twice : NeverTwice
 unfolding records
-never-twice n calls r =
+never-twice n lists r =
     let t = emptyTable n in
-    let u = tableAfter t calls in
-    let ps = past t calls in
-    let h = now n calls in
-    in-one-part-over (circuitAt u) (history ps) n (history-tells n calls) r
-    (subst (λ (m : ℕ). InOnePart m (circuitAt u) r) (now-count n calls)
+    let u = tableAfter t lists in
+    let ps = past t lists in
+    let h = now n lists in
+    in-one-part-over (circuitAt u) (history ps) n (history-tells n lists) r
+    (subst (λ (m : ℕ). InOnePart m (circuitAt u) r) (now-count n lists)
     (in-one-part (circuitAt u) (length u / 32) (valid-facts records u (h .still-valid) .unique) r))

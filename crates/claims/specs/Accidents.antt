@@ -9,8 +9,8 @@ use Rattle.octets.specs.Span.{span}
 use Rattle.rules.specs.declared.circuit.Circuit.{Circuit}
 use Rattle.rules.specs.Circuit.{nobody}
 use Rattle.rules.specs.Records.{circuitAt}
-use Rattle.claims.specs.History.{Exchange, asked, answerNumber, answerPlace, heard, history}
-use Rattle.claims.specs.Calls.{Call, emptyTable, tableAfter, past}
+use Rattle.claims.specs.History.{Turn, asked, answerNumber, answerPlace, heard, history}
+use Rattle.claims.specs.Lists.{EventList, emptyTable, tableAfter, past}
 use Rattle.claims.specs.Demand.{StandsIn}
 
 -- record c of table t, where the history shows circuit y
@@ -24,14 +24,14 @@ pub record OnlyWithParty (t : List ℕ) (c : ℕ) (y : Circuit) : Type 0 where
 -- THE FIRST ACCIDENT: "a mark stands on a circuit only while the history shows its party there"
 abbrev pub NoMarkLeft : Type 0
 NoMarkLeft =
-    (n : ℕ) (calls : List Call) (c : ℕ) → c < n → OnlyWithParty (tableAfter (emptyTable n) calls) c (history (past (emptyTable n) calls) c)
+    (n : ℕ) (lists : List EventList) (c : ℕ) → c < n → OnlyWithParty (tableAfter (emptyTable n) lists) c (history (past (emptyTable n) lists) c)
 
 -- the clock less the stored clock of circuit y, modulo 4,294,967,296, is 3,000 or more
 abbrev pub Old : ℕ → Circuit → Type 0
 Old clock y = 3000 ≤ (clock + 4294967296 - y .clock) % 4294967296
 
--- exchange p takes the reservation of circuit c, which is y, away
-pub data Goes (c : ℕ) (y : Circuit) (p : Exchange) : Type 0 where
+-- turn p takes the reservation of circuit c, which is y, away
+pub data Goes (c : ℕ) (y : Circuit) (p : Turn) : Type 0 where
   -- its own set-up, answered by 1 or 2: the call then holds the circuit
   own-set-up : asked p .kind ≡ 1 → StandsIn (asked p .reference) (y .reservation)
       → (answerNumber (p .answer) ≡ 1) ⊎ (answerNumber (p .answer) ≡ 2) → answerPlace (p .answer) ≡ c → Goes c y p
@@ -52,15 +52,15 @@ Stays y z = (z .reservation ≡ y .reservation) × (z .clock ≡ y .clock)
 -- names it, or a clock event at 3,000 steps or more"
 abbrev pub NoReservationLost : Type 0
 NoReservationLost =
-    (n : ℕ) (calls : List Call) (before : List Exchange) (p : Exchange) (later : List Exchange)
-    → past (emptyTable n) calls ≡ before ++ p ∷ later
+    (n : ℕ) (lists : List EventList) (before : List Turn) (p : Turn) (later : List Turn)
+    → past (emptyTable n) lists ≡ before ++ p ∷ later
     → (c : ℕ) → c < n → history before c .reservation .present ≡ true
     → Stays (history before c) (history (before ++ p ∷ []) c) ⊎ Goes c (history before c) p
 
 -- and a clock event that was taken removes each reservation that is old, and no other
 abbrev pub OldOnesGo : Type 0
 OldOnesGo =
-    (p : Exchange) (c : ℕ) (y : Circuit) → answerNumber (p .answer) ≡ 7 → y .reservation .present ≡ true
+    (p : Turn) (c : ℕ) (y : Circuit) → answerNumber (p .answer) ≡ 7 → y .reservation .present ≡ true
     → (Old (asked p .clock) y → heard p c y .reservation ≡ nobody) × ((Old (asked p .clock) y → ⊥) → Stays y (heard p c y))
 
 -- call reference r, where x c is what the history shows of circuit c
@@ -71,4 +71,4 @@ pub record InOnePart (n : ℕ) (x : ℕ → Circuit) (r : List ℕ) : Type 0 whe
 
 -- "no call reference is ever in two parts"
 abbrev pub NeverTwice : Type 0
-NeverTwice = (n : ℕ) (calls : List Call) (r : List ℕ) → InOnePart n (history (past (emptyTable n) calls)) r
+NeverTwice = (n : ℕ) (lists : List EventList) (r : List ℕ) → InOnePart n (history (past (emptyTable n) lists)) r

@@ -16,15 +16,15 @@ use Rattle.rules.specs.Circuit.{isRoutine, nobody, party}
 use Rattle.rules.specs.Event.{wellFormed}
 use Rattle.rules.specs.Records.{circuitAt, eventAt}
 use Rattle.route.specs.Entries.{listAnswers}
-use Rattle.claims.specs.History.{Exchange, asked, answerNumber, history}
-use Rattle.claims.specs.Calls.{Call, emptyTable, tableAfter, past}
+use Rattle.claims.specs.History.{Turn, asked, answerNumber, history}
+use Rattle.claims.specs.Lists.{EventList, emptyTable, tableAfter, past}
 use Rattle.claims.specs.Chosen.{NoneFree, NoneLower, FirstFree, Lowest}
 
 -- "Who holds and who has reserved each circuit follows from the past events and answers alone": what the table shows of a circuit,
 -- under which mark and since which clock, is what the history says
 abbrev pub HistoryTells : Type 0
 HistoryTells =
-    (n : ℕ) (calls : List Call) (c : ℕ) → c < n → circuitAt (tableAfter (emptyTable n) calls) c ≡ history (past (emptyTable n) calls) c
+    (n : ℕ) (lists : List EventList) (c : ℕ) → c < n → circuitAt (tableAfter (emptyTable n) lists) c ≡ history (past (emptyTable n) lists) c
 
 abbrev pub StandsIn : List ℕ → Part → Type 0  -- the call with reference r stands in this part
 StandsIn r p = (p .present ≡ true) × (p .reference ≡ r)
@@ -73,20 +73,20 @@ pub record Answered (n : ℕ) (x y : ℕ → Circuit) (e : Event) (a : List ℕ)
   -- "else it gets .."
   pub otherwise : (ForWant a → ⊥) → Gets n x y e a
 
--- DEMAND 3: after any calls of the list entry, a set-up given to it as a list of one event
+-- DEMAND 3: after any lists given to the list entry, of a set-up given to it as a list of one event
 abbrev pub Demand3 : Type 0
 Demand3 =
     (n : ℕ) → 1 ≤ n → n ≤ 256
-    → (calls : List Call) (e place : List ℕ) → length e ≡ 16 → length place ≡ 16
-    → NewSetUp n (history (past (emptyTable n) calls)) (eventAt e)
-    → Answered n (history (past (emptyTable n) calls))
-    (history (past (emptyTable n) (calls ++ record { events = e; places = place } ∷ [])))
-    (eventAt e) (listAnswers (tableAfter (emptyTable n) calls) e place)
+    → (lists : List EventList) (e place : List ℕ) → length e ≡ 16 → length place ≡ 16
+    → NewSetUp n (history (past (emptyTable n) lists)) (eventAt e)
+    → Answered n (history (past (emptyTable n) lists))
+    (history (past (emptyTable n) (lists ++ record { events = e; places = place } ∷ [])))
+    (eventAt e) (listAnswers (tableAfter (emptyTable n) lists) e place)
 
 -- the same of a set-up at any place of any list: before and later are the rest of the past
 abbrev pub Demand3Within : Type 0
 Demand3Within =
-    (n : ℕ) (calls : List Call) (before : List Exchange) (p : Exchange) (later : List Exchange)
-    → past (emptyTable n) calls ≡ before ++ p ∷ later
+    (n : ℕ) (lists : List EventList) (before : List Turn) (p : Turn) (later : List Turn)
+    → past (emptyTable n) lists ≡ before ++ p ∷ later
     → NewSetUp n (history before) (asked p)
     → Answered n (history before) (history (before ++ p ∷ [])) (asked p) (p .answer)

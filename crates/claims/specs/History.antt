@@ -12,11 +12,11 @@ use Rattle.rules.specs.Circuit.{nobody, overdue, made}
 use Rattle.rules.specs.Records.{eventAt}
 
 -- an event and the answer that was given to it, both in their octets
-pub record Exchange : Type 0 where
+pub record Turn : Type 0 where
   pub event : List ℕ
   pub answer : List ℕ
 
-abbrev pub asked : Exchange → Event  -- what its event says
+abbrev pub asked : Turn → Event  -- what its event says
 asked p = eventAt (p .event)
 
 abbrev pub answerNumber : List ℕ → ℕ  -- an answer's octet 0: its number
@@ -38,16 +38,16 @@ named e k y =
 unfoldable pub told : Event → ℕ → ℕ → ℕ → Circuit → Circuit
 told e k i c y = cond (eqb k 7) (cond (overdue (e .clock) y) (made e Cancel y) y) (cond (eqb i c) (named e k y) y)
 
-abbrev pub heard : Exchange → ℕ → Circuit → Circuit  -- the same, read from the octets
+abbrev pub heard : Turn → ℕ → Circuit → Circuit  -- the same, read from the octets
 heard p c y = told (asked p) (answerNumber (p .answer)) (answerPlace (p .answer)) c y
 
--- circuit c after these exchanges, the oldest first, if it was y before them
-abbrev pub historyFrom : Circuit → List Exchange → ℕ → Circuit
+-- circuit c after these turns, the oldest first, if it was y before them
+abbrev pub historyFrom : Circuit → List Turn → ℕ → Circuit
 historyFrom y [] c = y
 historyFrom y (p ∷ ps) c = historyFrom (heard p c y) ps c
 
 abbrev pub empty : Circuit  -- nobody holds it, and nobody has reserved it
 empty = record { holder = nobody; reservation = nobody; clock = 0 }
 
-abbrev pub history : List Exchange → ℕ → Circuit  -- circuit c, by all that ever was asked and answered
+abbrev pub history : List Turn → ℕ → Circuit  -- circuit c, by all that ever was asked and answered
 history ps c = historyFrom empty ps c

@@ -9,11 +9,11 @@ use Rattle.rules.specs.Records.{eventAt}
 use Rattle.rules.specs.Vectors.{setsUp, priority}
 use Rattle.route.specs.Entries.{listAnswers}
 use Rattle.claims.specs.History.{history}
-use Rattle.claims.specs.Calls.{Call, emptyTable, tableAfter, past}
+use Rattle.claims.specs.Lists.{EventList, emptyTable, tableAfter, past}
 use Rattle.claims.specs.Demand.{NewSetUp}
 
 -- a ROUTINE call takes the only circuit and a malformed set-up is refused; then a list with too few answer places is
-unfoldable pub earlier : List Call
+unfoldable pub earlier : List EventList
 earlier =
     record { events = setsUp 1 routine ++ setsUp 2 0x62; places = replicate 32 255 }
     ∷ record { events = setsUp 3 priority; places = [] }

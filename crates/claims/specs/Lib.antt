@@ -1,5 +1,5 @@
 pub mod History
-pub mod Calls
+pub mod Lists
 pub mod Chosen
 pub mod Demand
 pub mod Accidents

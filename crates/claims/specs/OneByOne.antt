@@ -7,19 +7,19 @@ use lib.ListN.{length, replicate}
 use Rattle.rules.specs.declared.circuit.Circuit.{Circuit}
 use Rattle.rules.specs.Records.{checkNumber}
 use Rattle.route.specs.Entries.{eventNumber, eventTable, eventAnswer, listNumber, listTable, listAnswers}
-use Rattle.claims.specs.History.{Exchange, answerNumber, heard}
-use Rattle.claims.specs.Calls.{Call, emptyTable, tableAfter, past}
+use Rattle.claims.specs.History.{Turn, answerNumber, heard}
+use Rattle.claims.specs.Lists.{EventList, emptyTable, tableAfter, past}
 
 -- each event given to the event entry alone, with a zero answer to write on: it leaves the answer that the past has, and in the end
 -- table t is u
-abbrev pub EventByEvent : List ℕ → List Exchange → List ℕ → Type 0
+abbrev pub EventByEvent : List ℕ → List Turn → List ℕ → Type 0
 EventByEvent t [] u = t ≡ u
 EventByEvent t (p ∷ ps) u =
     (p .answer ≡ eventAnswer t (p .event) (replicate 16 0)) × EventByEvent (eventTable t (p .event) (replicate 16 0)) ps u
 
 -- "a list is its events one by one, and lists one after another are one long run"
 abbrev pub OneByOne : Type 0
-OneByOne = (t : List ℕ) (calls : List Call) → EventByEvent t (past t calls) (tableAfter t calls)
+OneByOne = (t : List ℕ) (lists : List EventList) → EventByEvent t (past t lists) (tableAfter t lists)
 
 -- a list of one event leaves what the event entry leaves; so demand 3 is the event entry's too
 abbrev pub ListOfOne : Type 0
@@ -38,9 +38,9 @@ EventKeepsValid = (t e place : List ℕ) → checkNumber (eventTable t e place) 
 abbrev pub ListKeepsValid : Type 0
 ListKeepsValid = (t es places : List ℕ) → checkNumber (listTable t es places) ≡ checkNumber t
 
--- so it gives 0 after any calls from an empty table
+-- so it gives 0 after any lists from an empty table
 abbrev pub AlwaysValid : Type 0
-AlwaysValid = (n : ℕ) → 1 ≤ n → n ≤ 256 → (calls : List Call) → checkNumber (tableAfter (emptyTable n) calls) ≡ 0
+AlwaysValid = (n : ℕ) → 1 ≤ n → n ≤ 256 → (lists : List EventList) → checkNumber (tableAfter (emptyTable n) lists) ≡ 0
 
 -- "a refusal changes nothing": the table stays, octet for octet
 abbrev pub RefusalKeepsTable : Type 0
@@ -48,7 +48,7 @@ RefusalKeepsTable = (t e place : List ℕ) → 20 ≤ eventNumber t e place → 
 
 -- and what the history shows stays
 abbrev pub RefusalKeepsHistory : Type 0
-RefusalKeepsHistory = (p : Exchange) (c : ℕ) (y : Circuit) → 20 ≤ answerNumber (p .answer) → heard p c y ≡ y
+RefusalKeepsHistory = (p : Turn) (c : ℕ) (y : Circuit) → 20 ≤ answerNumber (p .answer) → heard p c y ≡ y
 
 -- nor does a list that is refused by 20 write anything
 abbrev pub RefusedList : Type 0
