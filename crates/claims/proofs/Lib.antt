@@ -1,5 +1,6 @@
 pub mod Heard
 pub mod Octets
+pub mod Simulation
 pub mod Ran
 pub mod Cut
 pub mod Start

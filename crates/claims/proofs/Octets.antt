@@ -4,7 +4,6 @@ use mathlib.Core.Path.{_≡_, refl, _∙_}
 use mathlib.Core.List.{List, [], _∷_}
 use lib.ListN.{length}
 use Rattle.octets.proofs.Tests.{by-test}
-use Rattle.octets.proofs.Width.{value-octets}
 use Rattle.octets.proofs.Spans.{length-put}
 use Rattle.rules.specs.declared.circuit.Circuit.{Circuit}
 use Rattle.rules.specs.declared.event.Event.{Event}
@@ -14,7 +13,7 @@ use Rattle.rules.specs.declared.outcome.Outcome.the-variants.{Refuse, Do, Clock
 use Rattle.rules.specs.Circuit.{overdue, made}
 use Rattle.rules.specs.Run.{decide, sweepTo, effect, after, answered, answer, run}
 use Rattle.rules.specs.Records.{circuitAt, circuitOctets, putCircuit, eventAt, records}
-use Rattle.claims.specs.History.{answerNumber, answerPlace}
+use Rattle.claims.specs.History.{answerNumber}
 
 module _ (t e : List ℕ) where
   pub length-answer : length (answer records t e) ≡ 16
@@ -24,10 +23,6 @@ module _ (t e : List ℕ) where
   pub answer-number : answerNumber (answer records t e) ≡ answered records t e .number
   unfolding answer records
   answer-number = refl
-
-  pub answer-place : answerPlace (answer records t e) ≡ answered records t e .place
-  unfolding answer records
-  answer-place = value-octets 1 (answered records t e .place)
 
 -- ---- a table keeps its length
 length-circuit : (t : List ℕ) (i : ℕ) (y : Circuit) → length (putCircuit t i y) ≡ length t

@@ -1,61 +1,54 @@
--- A past that led from one table to another: its parts, and what the table shows in the end.
+-- A past over 01's records: its parts, and what the table shows in the end.
 use Prim.Native.Nat.{ℕ, _/_, _<_}
-use mathlib.Core.Path.{_≡_, refl, sym, ap, ap₂, _∙_, subst}
+use mathlib.Core.Path.{_≡_, refl, sym, ap, _∙_, subst}
 use mathlib.Core.Bool.{true}
 use mathlib.Core.List.{List, [], _∷_, _++_}
 use lib.ListN.{length}
+use Rattle.octets.proofs.Width.{value-octets}
 use Rattle.rules.specs.declared.circuit.Circuit.{Circuit}
 use Rattle.rules.specs.Valid.{valid}
 use Rattle.rules.specs.Run.{after, answered, answer}
-use Rattle.rules.specs.Records.{circuitAt, eventAt, records}
+use Rattle.rules.specs.Records.{circuitAt, records}
 use Rattle.rules.proofs.Records.{lawful}
-use Rattle.rules.proofs.Kept.{after-valid}
-use Rattle.claims.specs.History.{Turn, answerNumber, answerPlace, told, heard, historyFrom}
-use Rattle.claims.proofs.Heard.{view-told}
-use Rattle.claims.proofs.Octets.{answer-number, answer-place, length-after}
+use Rattle.claims.specs.History.{Turn, asked, told, heard, historyFrom}
+use Rattle.claims.proofs.Octets.{length-after}
+use Rattle.claims.proofs.Simulation.{Legible, RanIn, historyIn, heard-answered, simulation}
 
--- each event of the past, applied to the table before it, is answered as the past says; so t becomes u
-abbrev pub Ran : List ℕ → List Turn → List ℕ → Type 0
-Ran t [] u = t ≡ u
-Ran t (p ∷ ps) u = (p .answer ≡ answer records t (p .event)) × Ran (after records t (p .event)) ps u
+abbrev pub Ran : List ℕ → List Turn → List ℕ → Type 0  -- over 01's records
+Ran = RanIn records
 
 pub ran-append : (ps qs : List Turn) (t u v : List ℕ) → Ran t ps u → Ran u qs v → Ran t (ps ++ qs) v
 ran-append [] qs t u v h g = subst (λ (w : List ℕ). Ran w qs v) (sym h) g
 ran-append (p ∷ ps) qs t u v h g = (h .0, ran-append ps qs (after records t (p .event)) u v (h .1) g)
 
--- ---- one turn
-module _ (t : List ℕ) (p : Turn) (a : p .answer ≡ answer records t (p .event)) (c : ℕ) where
-  pub heard-answered : (y : Circuit) → heard p c y ≡ told (eventAt (p .event)) (answered records t (p .event) .number) (answered records t (p .event) .place) c y
-  heard-answered y =
-      ap₂ (λ (k i : ℕ). told (eventAt (p .event)) k i c y) (ap answerNumber a ∙ answer-number t (p .event)) (ap answerPlace a ∙ answer-place t (p .event))
+ran-long : (ps : List Turn) (t u : List ℕ) → Ran t ps u → length u ≡ length t
+ran-long [] t u h = ap length (sym h)
+ran-long (p ∷ ps) t u h = ran-long ps (after records t (p .event)) u (h .1) ∙ length-after t (p .event)
 
-  view-heard : valid records t ≡ true → c < length t / 32 → circuitAt (after records t (p .event)) c ≡ heard p c (circuitAt t c)
-  unfolding records
-  view-heard v l = view-told records lawful t (p .event) v c l ∙ sym (heard-answered (circuitAt t c))
+legible : Legible records
+unfolding records
+legible = record { number = λ a. refl; place = λ a. value-octets 1 (a .place) }
 
--- ---- all of them: from any valid table t that shows circuits y, what the table shows in the end is what the history tells
+pub heard-as-answered : (t : List ℕ) (p : Turn) → p .answer ≡ answer records t (p .event) → (c : ℕ) (y : Circuit) → heard p c y ≡ told (asked p) (answered records t (p .event) .number) (answered records t (p .event) .place) c y
+unfolding records
+heard-as-answered = heard-answered records legible
+
+-- ---- from any valid table t that shows circuits y, what the table shows in the end is what the history tells
 pub record Shown (t : List ℕ) (y : ℕ → Circuit) (ps : List Turn) (u : List ℕ) : Type 0 where
   pub still-valid : valid records u ≡ true
   pub as-long : length u ≡ length t
   pub tells : (c : ℕ) → c < length t / 32 → circuitAt u c ≡ historyFrom (y c) ps c
 
+history-in : (ps : List Turn) (y : Circuit) (c : ℕ) → historyIn records y ps c ≡ historyFrom y ps c
+unfolding records
+history-in [] y c = refl
+history-in (p ∷ ps) y c = history-in ps (heard p c y) c
+
 pub shown : (ps : List Turn) (t u : List ℕ) → valid records t ≡ true → (y : ℕ → Circuit) → ((c : ℕ) → c < length t / 32 → circuitAt t c ≡ y c) → Ran t ps u → Shown t y ps u
-shown [] t u v y q h =
-    record {
-      still-valid = ap (valid records) (sym h) ∙ v;
-      as-long = ap length (sym h);
-      tells = λ c l. ap (λ (w : List ℕ). circuitAt w c) (sym h) ∙ q c l;
-    }
-shown (p ∷ ps) t u v y q h =
-    let s = after records t (p .event) in
-    let long = length-after t (p .event) in
-    let fewer : (c : ℕ) → c < length s / 32 → c < length t / 32 = λ c l. subst (λ (m : ℕ). c < m / 32) long l in
-    let r = shown ps s u (after-valid records lawful t (p .event) v) (λ c. heard p c (y c)) (λ c l. view-heard t p (h .0) c v (fewer c l) ∙ ap (heard p c) (q c (fewer c l))) (h .1) in
-    record {
-      still-valid = r .still-valid;
-      as-long = r .as-long ∙ long;
-      tells = λ c l. r .tells c (subst (λ (m : ℕ). c < m / 32) (sym long) l);
-    }
+unfolding records
+shown ps t u v y q h =
+    let r = simulation records lawful legible ps t u v y q h in
+    record { still-valid = r .still-valid; as-long = ran-long ps t u h; tells = λ c l. r .tells c l ∙ history-in ps (y c) c }
 
 -- ---- turn p in a past: the table before it, and how it was answered
 pub record Stood (t : List ℕ) (y : ℕ → Circuit) (before : List Turn) (p : Turn) : Type 0 where

@@ -31,7 +31,7 @@ use Rattle.claims.specs.Accidents.{Old, Goes, own-set-up, cancelled, hig
 use Rattle.claims.proofs.Heard.{told-becomes}
 use Rattle.claims.proofs.Plain.{stands-in, free-so, lower-so}
 use Rattle.claims.proofs.Reasons.{Open, Reason, decided}
-use Rattle.claims.proofs.Ran.{Ran, heard-answered, stood}
+use Rattle.claims.proofs.Ran.{Ran, heard-as-answered, stood}
 use Rattle.claims.proofs.Start.{start-valid}
 use Rattle.claims.proofs.Demanded.{start-count, start-shows, history-then, ran-split}
 
@@ -132,7 +132,7 @@ module _ (t : List ℕ) (p : Turn) where
   unfolding records answer answered
   told-kept a c there =
       let o = decide records t e in
-      subst (λ (z : Circuit). Stays (x c) z ⊎ Goes c (x c) p) (sym (heard-answered t p a c (x c) ∙ told-becomes x n e c o))
+      subst (λ (z : Circuit). Stays (x c) z ⊎ Goes c (x c) p) (sym (heard-as-answered t p a c (x c) ∙ told-becomes x n e c o))
       (kept-or-goes c there o (decided records t e) a)
 
 -- from any valid table t, which shows circuits y
