@@ -14,10 +14,11 @@ use Rattle.rules.specs.Records.{records, tableLength, checkNumber}
 use Rattle.rules.proofs.Records.{lawful}
 use Rattle.rules.proofs.Kept.{valid-after, run-valid}
 use Rattle.route.specs.Entries.{eventLengths, eventsIn, listLengths, listTable}
+use Rattle.route.proofs.Whole.{no-event}
 use Rattle.claims.specs.Lists.{emptyTable, tableAfter}
 use Rattle.claims.specs.OneByOne.{EventKeepsValid, ListKeepsValid, AlwaysValid}
 use Rattle.claims.proofs.Octets.{length-after, length-run}
-use Rattle.claims.proofs.Refused.{table-then, table-stays}
+use Rattle.claims.proofs.Refused.{table-then}
 use Rattle.claims.proofs.Demanded.{table-length, now, now-long}
 
 same-number : (v w : Verdict) → isValid v ≡ isValid w → verdictNumber v ≡ verdictNumber w
@@ -35,7 +36,7 @@ pub event-keeps-valid : EventKeepsValid
 event-keeps-valid t e place =
     by-so (eventLengths t e place)
     (λ q. ap checkNumber (table-then t e place q) ∙ check-same t (after records t e) (length-after t e) (valid-after records lawful t e))
-    (λ q. ap checkNumber (table-stays t e place q))
+    (λ q. ap checkNumber (sym (no-event t e place q .1 .0)))
 
 pub list-keeps-valid : ListKeepsValid
 unfolding listTable

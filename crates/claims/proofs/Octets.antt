@@ -1,4 +1,4 @@
--- What is read from the octets of an answer, and how many octets one event leaves.
+-- The number of an answer, and the length of a table after an event.
 use Prim.Native.Nat.{ℕ, zero, suc, _/_}
 use mathlib.Core.Path.{_≡_, refl, _∙_}
 use mathlib.Core.List.{List, [], _∷_}
@@ -15,14 +15,9 @@ use Rattle.rules.specs.Run.{decide, sweepTo, effect, after, answered, answer, r
 use Rattle.rules.specs.Records.{circuitAt, circuitOctets, putCircuit, eventAt, records}
 use Rattle.claims.specs.History.{answerNumber}
 
-module _ (t e : List ℕ) where
-  pub length-answer : length (answer records t e) ≡ 16
-  unfolding answer records
-  length-answer = refl
-
-  pub answer-number : answerNumber (answer records t e) ≡ answered records t e .number
-  unfolding answer records
-  answer-number = refl
+pub answer-number : (t e : List ℕ) → answerNumber (answer records t e) ≡ answered records t e .number
+unfolding answer records
+answer-number t e = refl
 
 -- ---- a table keeps its length
 length-circuit : (t : List ℕ) (i : ℕ) (y : Circuit) → length (putCircuit t i y) ≡ length t

@@ -3,7 +3,7 @@ use Prim.Native.Nat.{ℕ, _/_, _≤_}
 use mathlib.Core.Path.{_≡_, refl, sym, ap, _∙_}
 use mathlib.Core.Logic.{_≢_}
 use mathlib.Core.Bool.{Bool, true, false, cond, _||_}
-use mathlib.Core.List.{List, flatten}
+use mathlib.Core.List.{List}
 use native.Mathlib.Omega.{arith}
 use lib.ListN.{length}
 use Rattle.octets.proofs.Tests.{by-so}
@@ -13,9 +13,10 @@ use Rattle.rules.specs.declared.outcome.Outcome.{Outcome}
 use Rattle.rules.specs.declared.outcome.Outcome.the-variants.{Refuse, Do, Clock}
 use Rattle.rules.specs.Numbers.{lengthWrong}
 use Rattle.rules.specs.Answer.{anothers, answerOf}
-use Rattle.rules.specs.Run.{decide, effect, after, answered, answer, run, answers}
+use Rattle.rules.specs.Run.{decide, effect, after, answered, answer}
 use Rattle.rules.specs.Records.{circuitAt, eventAt, records}
-use Rattle.route.specs.Entries.{eventsIn, eventLengths, eventNumber, eventTable, eventAnswer, listLengths, listNumber, listTable, listAnswers}
+use Rattle.route.specs.Entries.{eventLengths, eventNumber, eventTable, eventAnswer, listLengths, listNumber}
+use Rattle.route.proofs.Whole.{no-event, no-list}
 use Rattle.claims.specs.History.{answerNumber, answerPlace}
 use Rattle.claims.specs.OneByOne.{ReturnsNumber, RefusalKeepsTable, RefusalKeepsHistory, RefusedList}
 use Rattle.claims.proofs.Heard.{told-refused}
@@ -65,11 +66,6 @@ module _ (t e place : List ℕ) where
     unfolding eventAnswer
     answer-then = ap (λ (b : Bool). cond b (answer records t e) place) q
 
-  module _ (q : eventLengths t e place ≡ false) where
-    pub table-stays : eventTable t e place ≡ t
-    unfolding eventTable
-    table-stays = ap (λ (b : Bool). cond b (after records t e) t) q
-
 pub returns-number : ReturnsNumber
 returns-number t e place h =
     let q = lengths-right t e place h in
@@ -78,15 +74,15 @@ returns-number t e place h =
 pub refusal-keeps-table : RefusalKeepsTable
 refusal-keeps-table t e place h =
     by-so (eventLengths t e place)
-    (λ q. table-then t e place q ∙ refused-table t e (omega (arith, number-then t e place q))) (table-stays t e place)
+    (λ q. table-then t e place q ∙ refused-table t e (omega (arith, number-then t e place q))) (λ q. sym (no-event t e place q .1 .0))
 
 pub refusal-keeps-history : RefusalKeepsHistory
 refusal-keeps-history p c y h = told-refused (eventAt (p .event)) (answerPlace (p .answer)) c y (answerNumber (p .answer)) (omega arith)
 
 -- ---- a list
 pub refused-list : RefusedList
-unfolding listNumber listTable listAnswers
+unfolding listNumber
 refused-list t es places h =
     by-so (listLengths t es places)
     (λ q. absurd (let z = sym (ap (λ (b : Bool). cond {A = ℕ} b 0 lengthWrong) q) ∙ h in omega arith))
-    (λ q. (ap (λ (b : Bool). cond b (run records t (eventsIn es)) t) q, ap (λ (b : Bool). cond b (flatten (answers records t (eventsIn es))) places) q))
+    (λ q. let n = no-list t es places q .1 in (sym (n .0), sym (n .1)))

@@ -33,7 +33,7 @@ module _ (t es : List ℕ) where
   pub ran-more : (k : ℕ) → after records (ran k) (span es (16 * k) 16) ≡ ran (k + 1)
   ran-more k = sym (run-append records (eventsTo es k) (span es (16 * k) 16 ∷ []) t) ∙ ap ran (sym (add-one k))
 
-  told-next : (k : ℕ) → told k ++ answer records (ran k) (span es (16 * k) 16) ≡ told (suc k)
+  pub told-next : (k : ℕ) → told k ++ answer records (ran k) (span es (16 * k) 16) ≡ told (suc k)
   told-next k =
       sym (flatten-more (answers records t (eventsTo es k)) (answer records (ran k) (span es (16 * k) 16)))
       ∙ ap flatten (sym (answers-append records (eventsTo es k) (span es (16 * k) 16 ∷ []) t))
