@@ -1,0 +1,266 @@
+/* The benchmark: calls the library and plain C on the same octets, ends with status 1 where their results differ, and sets a mark
+ * before and after each counted call. For each pair of marks it writes one line, tab between: what is counted, circuits, side, the
+ * number of events that the call stands for. Lines that begin with "stack" or "answers" have no marks. */
+#include <stdio.h>
+#include <stdlib.h>
+#include <string.h>
+
+#include "naustvri.h"
+#include "plain.h"
+#include "stack.h"
+#include "workload.h"
+
+static const struct side {
+    const char *name;
+    struct naustvri_precedence_reading (*read_precedence)(const uint8_t *, size_t);
+    uint8_t (*write_precedence)(uint8_t *, size_t, struct naustvri_precedence);
+    struct naustvri_reference_reading (*read_reference)(const uint8_t *, size_t);
+    uint8_t (*write_reference)(uint8_t *, size_t, struct naustvri_reference);
+    uint8_t (*check)(const uint8_t *, size_t);
+    uint8_t (*event)(uint8_t *, size_t, const uint8_t *, size_t, uint8_t *, size_t);
+    uint8_t (*list)(uint8_t *, size_t, const uint8_t *, size_t, uint8_t *, size_t);
+    struct naustvri_lamps (*lamps)(const uint8_t *, size_t);
+} sides[] = {
+    {"library", naustvri_read_precedence, naustvri_write_precedence, naustvri_read_reference, naustvri_write_reference, naustvri_check,
+     naustvri_event, naustvri_list, naustvri_lamps},
+    {"plain", plain_read_precedence, plain_write_precedence, plain_read_reference, plain_write_reference, plain_check, plain_event,
+     plain_list, plain_lamps},
+};
+
+enum { SIDES = 2 };
+
+#define EACH_SIDE(s) (const struct side *s = sides; s < sides + SIDES; s++)
+
+/* What a call gave back and left in its buffers. */
+struct result {
+    uint8_t number;
+    uint8_t table[NAUSTVRI_CIRCUITS_MOST * NAUSTVRI_CIRCUIT_SIZE];
+    uint8_t answers[NAUSTVRI_EVENTS_MOST * NAUSTVRI_ANSWER_SIZE];
+};
+
+static struct result results[SIDES];
+
+static void must_be_equal(const char *what, const void *a, const void *b, size_t octets)
+{
+    if (memcmp(a, b, octets) == 0)
+        return;
+    fprintf(stderr, "bench: the library and plain C differ: %s\n", what);
+    exit(1);
+}
+
+/* The counter's mark: it counts up to each entry into this function. */
+__attribute__((noinline)) void bench_mark(void) { __asm__ volatile("" ::: "memory"); }
+
+static void counted(const char *what, size_t circuits, const struct side *s, size_t events)
+{
+    printf("%s\t%zu\t%s\t%zu\n", what, circuits, s->name, events);
+}
+
+#define COUNT(call)   \
+    do {              \
+        bench_mark(); \
+        call;         \
+        bench_mark(); \
+    } while (0)
+
+static void bench_check(const char *what, const uint8_t *table, size_t circuits)
+{
+    for EACH_SIDE (s) {
+        COUNT(results[s - sides].number = s->check(table, circuits * NAUSTVRI_CIRCUIT_SIZE));
+        counted(what, circuits, s, 1);
+    }
+    must_be_equal(what, &results[0].number, &results[1].number, 1);
+}
+
+static void bench_lamps(const char *what, const uint8_t *table, size_t circuits)
+{
+    struct naustvri_lamps lamps[SIDES];
+    for EACH_SIDE (s) {
+        COUNT(lamps[s - sides] = s->lamps(table, circuits * NAUSTVRI_CIRCUIT_SIZE));
+        counted(what, circuits, s, 1);
+    }
+    if (lamps[0].number != lamps[1].number || lamps[0].lit != lamps[1].lit)
+        must_be_equal(what, "0", "1", 1);
+    must_be_equal(what, lamps[0].words, lamps[1].words, sizeof lamps[0].words);
+}
+
+static void bench_list(const char *what, const struct workload *w)
+{
+    size_t octets = w->circuits * NAUSTVRI_CIRCUIT_SIZE;
+    for EACH_SIDE (s) {
+        struct result *r = &results[s - sides];
+        memcpy(r->table, w->table, octets);
+        COUNT(r->number = s->list(r->table, octets, w->events, sizeof w->events, r->answers, sizeof r->answers));
+        counted(what, w->circuits, s, NAUSTVRI_EVENTS_MOST);
+    }
+    must_be_equal(what, &results[0].number, &results[1].number, 1);
+    must_be_equal(what, results[0].table, results[1].table, octets);
+    must_be_equal(what, results[0].answers, results[1].answers, sizeof results[0].answers);
+}
+
+/* Events spread over the list, each alone over the table as the events before it left it. */
+static void bench_event(const char *what, const struct workload *w)
+{
+    enum { APART = 128 };
+    static uint8_t table[sizeof w->table], answers[APART * NAUSTVRI_ANSWER_SIZE];
+    size_t octets = w->circuits * NAUSTVRI_CIRCUIT_SIZE;
+    memcpy(table, w->table, octets);
+    for (size_t i = 0; i < NAUSTVRI_EVENTS_MOST; i += APART) {
+        const uint8_t *events = w->events + i * NAUSTVRI_EVENT_SIZE;
+        for EACH_SIDE (s) {
+            struct result *r = &results[s - sides];
+            memcpy(r->table, table, octets);
+            COUNT(r->number = s->event(r->table, octets, events, NAUSTVRI_EVENT_SIZE, r->answers, NAUSTVRI_ANSWER_SIZE));
+            counted(what, w->circuits, s, 1);
+        }
+        must_be_equal(what, &results[0].number, &results[1].number, 1);
+        must_be_equal(what, results[0].table, results[1].table, octets);
+        must_be_equal(what, results[0].answers, results[1].answers, NAUSTVRI_ANSWER_SIZE);
+        plain_list(table, octets, events, APART * NAUSTVRI_EVENT_SIZE, answers, sizeof answers);
+    }
+}
+
+/* Both fields of the set-ups of a list, read, and written again. */
+static void bench_fields(const struct workload *w)
+{
+    for (size_t i = 0; i < NAUSTVRI_EVENTS_MOST; i++) {
+        const uint8_t *event = w->events + i * NAUSTVRI_EVENT_SIZE;
+        const uint8_t *parameter = event + NAUSTVRI_EVENT_PRECEDENCE, *octets = event + NAUSTVRI_EVENT_REFERENCE;
+        if (event[NAUSTVRI_EVENT_KIND] != NAUSTVRI_SET_UP)
+            continue;
+        for EACH_SIDE (s) {
+            struct naustvri_precedence_reading precedence;
+            struct naustvri_reference_reading reference;
+            uint8_t written[NAUSTVRI_PRECEDENCE_SIZE] = {0}, number;
+            COUNT(precedence = s->read_precedence(parameter, NAUSTVRI_PRECEDENCE_SIZE));
+            counted("read precedence", 0, s, 1);
+            COUNT(number = s->write_precedence(written, NAUSTVRI_PRECEDENCE_SIZE, precedence.value));
+            counted("write precedence", 0, s, 1);
+            must_be_equal("precedence", written, parameter, NAUSTVRI_PRECEDENCE_SIZE);
+            COUNT(reference = s->read_reference(octets, NAUSTVRI_REFERENCE_SIZE));
+            counted("read reference", 0, s, 1);
+            COUNT(number |= s->write_reference(written, NAUSTVRI_REFERENCE_SIZE, reference.value));
+            counted("write reference", 0, s, 1);
+            must_be_equal("reference", written, octets, NAUSTVRI_REFERENCE_SIZE);
+            number |= precedence.number | reference.number;
+            must_be_equal("numbers of the fields", &number, "", 1);
+        }
+    }
+}
+
+/* How often each number stands in the answers of the last list. */
+static void write_answer_counts(const struct workload *w)
+{
+    unsigned counts[256] = {0};
+    for (size_t i = 0; i < NAUSTVRI_EVENTS_MOST; i++)
+        counts[results[0].answers[i * NAUSTVRI_ANSWER_SIZE]]++;
+    for (int number = 0; number < 256; number++)
+        if (counts[number])
+            printf("answers\t%s\t%zu\t%d\t%u\n", w->name, w->circuits, number, counts[number]);
+}
+
+/* The measured callers: one for each entry, over the greatest table. */
+static const struct side *painted;
+static struct workload work;
+static volatile uint8_t number_painted;
+
+static char *call_read_precedence(void)
+{
+    number_painted = painted->read_precedence(work.events + NAUSTVRI_EVENT_PRECEDENCE, NAUSTVRI_PRECEDENCE_SIZE).number;
+    return STACK_POINTER();
+}
+
+static char *call_write_precedence(void)
+{
+    static uint8_t buffer[NAUSTVRI_PRECEDENCE_SIZE];
+    static struct naustvri_precedence value;
+    number_painted = painted->write_precedence(buffer, sizeof buffer, value);
+    return STACK_POINTER();
+}
+
+static char *call_read_reference(void)
+{
+    number_painted = painted->read_reference(work.events + NAUSTVRI_EVENT_REFERENCE, NAUSTVRI_REFERENCE_SIZE).number;
+    return STACK_POINTER();
+}
+
+static char *call_write_reference(void)
+{
+    static uint8_t buffer[NAUSTVRI_REFERENCE_SIZE];
+    static struct naustvri_reference value;
+    number_painted = painted->write_reference(buffer, sizeof buffer, value);
+    return STACK_POINTER();
+}
+
+static char *call_check(void)
+{
+    number_painted = painted->check(work.table, sizeof work.table);
+    return STACK_POINTER();
+}
+
+static char *call_event(void)
+{
+    number_painted = painted->event(work.table, sizeof work.table, work.events, NAUSTVRI_EVENT_SIZE, results[0].answers, NAUSTVRI_ANSWER_SIZE);
+    return STACK_POINTER();
+}
+
+static char *call_list(void)
+{
+    number_painted = painted->list(work.table, sizeof work.table, work.events, sizeof work.events, results[0].answers, sizeof results[0].answers);
+    return STACK_POINTER();
+}
+
+static char *call_lamps(void)
+{
+    number_painted = painted->lamps(work.table, sizeof work.table).number;
+    return STACK_POINTER();
+}
+
+static void write_stacks(void)
+{
+    static const struct {
+        const char *name;
+        char *(*caller)(void);
+    } entries[] = {
+        {"read precedence", call_read_precedence}, {"write precedence", call_write_precedence},
+        {"read reference", call_read_reference},   {"write reference", call_write_reference},
+        {"check", call_check},                     {"event", call_event},
+        {"list", call_list},                       {"lamps", call_lamps},
+    };
+    for EACH_SIDE (s) {
+        painted = s;
+        for (size_t i = 0; i < sizeof entries / sizeof *entries; i++) {
+            make_mixed(&work, NAUSTVRI_CIRCUITS_MOST);
+            printf("stack\t%s\t%s\t%zu\n", entries[i].name, s->name, stack_used(entries[i].caller));
+        }
+    }
+}
+
+int main(void)
+{
+    static const size_t sizes[] = {16, 64, 256};
+    static void (*const workloads[])(struct workload *, size_t) = {make_mixed, make_take_heavy, make_full_table};
+    static uint8_t all_parts[sizeof work.table];
+    COUNT();
+    counted("nothing", 0, sides, 1);
+    for (size_t i = 0; i < sizeof sizes / sizeof *sizes; i++) {
+        make_all_parts(all_parts, sizes[i]);
+        bench_check("check, every part present", all_parts, sizes[i]);
+        for (size_t j = 0; j < sizeof workloads / sizeof *workloads; j++) {
+            char what[64];
+            workloads[j](&work, sizes[i]);
+            snprintf(what, sizeof what, "%s list, an event", work.name);
+            bench_list(what, &work);
+            write_answer_counts(&work);
+            if (j == 0) {
+                bench_check("check, mixed table", work.table, sizes[i]);
+                bench_lamps("lamp map, mixed table", work.table, sizes[i]);
+                bench_event("one event alone, mixed", &work);
+            }
+        }
+    }
+    make_mixed(&work, NAUSTVRI_CIRCUITS_MOST);
+    bench_fields(&work);
+    write_stacks();
+    return 0;
+}

@@ -1,0 +1,400 @@
+/* The rival in plain C: linear scans, references compared pair by pair, the table checked once a list, records read straight
+ * from the octets. */
+#include "plain.h"
+
+#include <stdbool.h>
+#include <string.h>
+
+/* A part of a circuit: its flag, level, domain and reference stand at the same places in the holder's and the reservation's. */
+enum { FLAG = 0, LEVEL = 1, DOMAIN = 2, REFERENCE = 7, PART_SIZE = 12, HOLDER = 0, RESERVATION = 12, NONE = -1 };
+
+static bool same_domain(const uint8_t *a, const uint8_t *b) { return memcmp(a, b, NAUSTVRI_DOMAIN_SIZE) == 0; }
+
+static bool same_reference(const uint8_t *a, const uint8_t *b) { return memcmp(a, b, NAUSTVRI_REFERENCE_SIZE) == 0; }
+
+static bool all_zero(const uint8_t *octets, size_t n)
+{
+    for (size_t i = 0; i < n; i++)
+        if (octets[i] != 0)
+            return false;
+    return true;
+}
+
+static bool decimal(const uint8_t *domain)
+{
+    return domain[0] >> 4 <= 9 && (domain[0] & 15) <= 9 && domain[1] >> 4 <= 9 && (domain[1] & 15) <= 9;
+}
+
+static uint32_t read_clock(const uint8_t *o)
+{
+    return o[0] | (uint32_t)o[1] << 8 | (uint32_t)o[2] << 16 | (uint32_t)o[3] << 24;
+}
+
+/* The precedence parameter: level, LFB indicator and domain at their places in its octets. */
+static uint8_t level_in(const uint8_t *parameter) { return parameter[0] & 15; }
+
+static uint8_t lfb_in(const uint8_t *parameter) { return parameter[0] >> 5 & 3; }
+
+static const uint8_t *domain_in(const uint8_t *parameter) { return parameter + 1; }
+
+static bool parameter_ok(const uint8_t *parameter)
+{
+    return level_in(parameter) <= NAUSTVRI_ROUTINE && lfb_in(parameter) <= NAUSTVRI_LFB_NOT_ALLOWED && decimal(domain_in(parameter));
+}
+
+struct naustvri_precedence_reading plain_read_precedence(const uint8_t *octets, size_t octets_len)
+{
+    struct naustvri_precedence_reading reading = {0};
+    if (octets_len != NAUSTVRI_PRECEDENCE_SIZE) {
+        reading.number = NAUSTVRI_WRONG_LENGTH;
+    } else if (!parameter_ok(octets)) {
+        reading.number = NAUSTVRI_MALFORMED;
+    } else {
+        reading.value.level = level_in(octets);
+        reading.value.lfb = lfb_in(octets);
+        reading.value.digits[0] = octets[1] >> 4;
+        reading.value.digits[1] = octets[1] & 15;
+        reading.value.digits[2] = octets[2] >> 4;
+        reading.value.digits[3] = octets[2] & 15;
+        reading.value.service = (uint32_t)octets[3] << 16 | (uint32_t)octets[4] << 8 | octets[5];
+    }
+    return reading;
+}
+
+uint8_t plain_write_precedence(uint8_t *buffer, size_t buffer_len, struct naustvri_precedence value)
+{
+    if (buffer_len != NAUSTVRI_PRECEDENCE_SIZE)
+        return NAUSTVRI_WRONG_LENGTH;
+    if (value.level > NAUSTVRI_ROUTINE || value.lfb > NAUSTVRI_LFB_NOT_ALLOWED || value.service >> 24 != 0)
+        return NAUSTVRI_MALFORMED;
+    for (int i = 0; i < 4; i++)
+        if (value.digits[i] > 9)
+            return NAUSTVRI_MALFORMED;
+    buffer[0] = (uint8_t)(value.lfb << 5 | value.level);
+    buffer[1] = (uint8_t)(value.digits[0] << 4 | value.digits[1]);
+    buffer[2] = (uint8_t)(value.digits[2] << 4 | value.digits[3]);
+    buffer[3] = (uint8_t)(value.service >> 16);
+    buffer[4] = (uint8_t)(value.service >> 8);
+    buffer[5] = (uint8_t)value.service;
+    return NAUSTVRI_DONE;
+}
+
+struct naustvri_reference_reading plain_read_reference(const uint8_t *octets, size_t octets_len)
+{
+    struct naustvri_reference_reading reading = {0};
+    if (octets_len != NAUSTVRI_REFERENCE_SIZE) {
+        reading.number = NAUSTVRI_WRONG_LENGTH;
+    } else {
+        reading.value.identity = octets[0] | (uint32_t)octets[1] << 8 | (uint32_t)octets[2] << 16;
+        reading.value.point = (uint16_t)(octets[3] | (octets[4] & 63) << 8);
+    }
+    return reading;
+}
+
+uint8_t plain_write_reference(uint8_t *buffer, size_t buffer_len, struct naustvri_reference value)
+{
+    if (buffer_len != NAUSTVRI_REFERENCE_SIZE)
+        return NAUSTVRI_WRONG_LENGTH;
+    if (value.identity >> 24 != 0 || value.point >> 14 != 0)
+        return NAUSTVRI_MALFORMED;
+    buffer[0] = (uint8_t)value.identity;
+    buffer[1] = (uint8_t)(value.identity >> 8);
+    buffer[2] = (uint8_t)(value.identity >> 16);
+    buffer[3] = (uint8_t)value.point;
+    buffer[4] = (uint8_t)(value.point >> 8);
+    return NAUSTVRI_DONE;
+}
+
+static bool table_length_ok(size_t n)
+{
+    return n % NAUSTVRI_CIRCUIT_SIZE == 0 && n >= NAUSTVRI_CIRCUIT_SIZE && n <= NAUSTVRI_CIRCUITS_MOST * NAUSTVRI_CIRCUIT_SIZE;
+}
+
+static bool part_ok(const uint8_t *part)
+{
+    if (part[FLAG] == 0)
+        return all_zero(part, PART_SIZE);
+    return part[FLAG] == 1 && part[LEVEL] <= NAUSTVRI_ROUTINE && decimal(part + DOMAIN) && part[REFERENCE + 4] < 64;
+}
+
+static bool circuit_ok(const uint8_t *circuit)
+{
+    const uint8_t *holder = circuit + HOLDER, *reservation = circuit + RESERVATION;
+    if (!part_ok(holder) || !part_ok(reservation) || !all_zero(circuit + NAUSTVRI_CIRCUIT_ZERO, 4))
+        return false;
+    if (!reservation[FLAG])
+        return all_zero(circuit + NAUSTVRI_CIRCUIT_RESERVATION_CLOCK, 4);
+    return !holder[FLAG] || (reservation[LEVEL] < holder[LEVEL] && same_domain(reservation + DOMAIN, holder + DOMAIN));
+}
+
+/* Whether `part` has the reference of no part before it: of a circuit below `circuits`. */
+static bool stands_in_none_before(const uint8_t *table, size_t circuits, const uint8_t *part)
+{
+    for (size_t i = 0; i < circuits; i++) {
+        const uint8_t *circuit = table + i * NAUSTVRI_CIRCUIT_SIZE;
+        if (circuit[HOLDER] && same_reference(circuit + HOLDER + REFERENCE, part + REFERENCE))
+            return false;
+        if (circuit[RESERVATION] && same_reference(circuit + RESERVATION + REFERENCE, part + REFERENCE))
+            return false;
+    }
+    return true;
+}
+
+static bool valid(const uint8_t *table, size_t circuits)
+{
+    for (size_t i = 0; i < circuits; i++)
+        if (!circuit_ok(table + i * NAUSTVRI_CIRCUIT_SIZE))
+            return false;
+    for (size_t i = 0; i < circuits; i++) {
+        const uint8_t *holder = table + i * NAUSTVRI_CIRCUIT_SIZE + HOLDER, *reservation = holder + RESERVATION;
+        if (holder[FLAG] && !stands_in_none_before(table, i, holder))
+            return false;
+        if (reservation[FLAG] && !stands_in_none_before(table, i, reservation))
+            return false;
+        if (holder[FLAG] && reservation[FLAG] && same_reference(holder + REFERENCE, reservation + REFERENCE))
+            return false;
+    }
+    return true;
+}
+
+uint8_t plain_check(const uint8_t *table, size_t table_len)
+{
+    if (!table_length_ok(table_len))
+        return NAUSTVRI_WRONG_LENGTH;
+    return valid(table, table_len / NAUSTVRI_CIRCUIT_SIZE) ? NAUSTVRI_DONE : NAUSTVRI_TABLE_NOT_VALID;
+}
+
+struct naustvri_lamps plain_lamps(const uint8_t *table, size_t table_len)
+{
+    struct naustvri_lamps lamps = {0};
+    lamps.number = plain_check(table, table_len);
+    if (lamps.number != NAUSTVRI_DONE)
+        return lamps;
+    for (size_t i = 0; i < table_len / NAUSTVRI_CIRCUIT_SIZE; i++) {
+        const uint8_t *circuit = table + i * NAUSTVRI_CIRCUIT_SIZE;
+        if (!circuit[HOLDER] && !circuit[RESERVATION]) {
+            lamps.words[i / 64] |= (uint64_t)1 << i % 64;
+            lamps.lit++;
+        }
+    }
+    return lamps;
+}
+
+/* An event as it is decided on: its reference with the spare bits 0. */
+struct call {
+    const uint8_t *parameter;
+    uint8_t reference[NAUSTVRI_REFERENCE_SIZE];
+    uint32_t clock;
+};
+
+static bool event_ok(const uint8_t *event)
+{
+    const uint8_t *parameter = event + NAUSTVRI_EVENT_PRECEDENCE;
+    switch (event[NAUSTVRI_EVENT_KIND]) {
+    case NAUSTVRI_SET_UP:
+    case NAUSTVRI_LOOK_AHEAD:
+        return parameter_ok(parameter);
+    case NAUSTVRI_RELEASE:
+    case NAUSTVRI_CANCEL:
+        return all_zero(parameter, NAUSTVRI_PRECEDENCE_SIZE);
+    case NAUSTVRI_CLOCK:
+        return all_zero(parameter, NAUSTVRI_PRECEDENCE_SIZE + NAUSTVRI_REFERENCE_SIZE);
+    default:
+        return false;
+    }
+}
+
+/* The circuit whose part (HOLDER or RESERVATION) has this reference, or NONE. */
+static int find(const uint8_t *table, size_t circuits, size_t part, const uint8_t *reference)
+{
+    for (size_t i = 0; i < circuits; i++) {
+        const uint8_t *p = table + i * NAUSTVRI_CIRCUIT_SIZE + part;
+        if (p[FLAG] && same_reference(p + REFERENCE, reference))
+            return (int)i;
+    }
+    return NONE;
+}
+
+/* The circuit that a call of this parameter gets, or NONE. */
+static int choose(const uint8_t *table, size_t circuits, const uint8_t *parameter)
+{
+    int best = NONE, best_rank = 0;
+    for (size_t i = 0; i < circuits; i++) {
+        const uint8_t *circuit = table + i * NAUSTVRI_CIRCUIT_SIZE;
+        bool held = circuit[HOLDER], reserved = circuit[RESERVATION];
+        if (!held && !reserved)
+            return (int)i;
+        const uint8_t *standing = circuit + (reserved ? RESERVATION : HOLDER);
+        if (standing[LEVEL] <= level_in(parameter) || !same_domain(standing + DOMAIN, domain_in(parameter)))
+            continue;
+        int rank = 2 * standing[LEVEL] + !held;
+        if (rank > best_rank) {
+            best_rank = rank;
+            best = (int)i;
+        }
+    }
+    return best;
+}
+
+static uint8_t write_answer(uint8_t *answer, uint8_t number, uint8_t cause, unsigned place)
+{
+    memset(answer, 0, NAUSTVRI_ANSWER_SIZE);
+    answer[NAUSTVRI_ANSWER_NUMBER] = number;
+    answer[NAUSTVRI_ANSWER_CAUSE] = cause;
+    answer[NAUSTVRI_ANSWER_PLACE] = (uint8_t)place;
+    answer[NAUSTVRI_ANSWER_PLACE + 1] = (uint8_t)(place >> 8);
+    return number;
+}
+
+static uint8_t refuse(uint8_t *answer, uint8_t number) { return write_answer(answer, number, NAUSTVRI_CAUSE_NONE, NAUSTVRI_NO_PLACE); }
+
+/* Names the call of a part as lost, at its flag's place in the answer. */
+static void lose(uint8_t *answer, size_t flag, const uint8_t *part)
+{
+    answer[flag] = 1;
+    memcpy(answer + flag + 1, part + REFERENCE, NAUSTVRI_REFERENCE_SIZE);
+}
+
+static void fill_part(uint8_t *part, const struct call *call)
+{
+    part[FLAG] = 1;
+    part[LEVEL] = level_in(call->parameter);
+    memcpy(part + DOMAIN, domain_in(call->parameter), NAUSTVRI_DOMAIN_SIZE);
+    memcpy(part + REFERENCE, call->reference, NAUSTVRI_REFERENCE_SIZE);
+}
+
+static void empty_holder(uint8_t *circuit) { memset(circuit + HOLDER, 0, PART_SIZE); }
+
+static void empty_reservation(uint8_t *circuit) { memset(circuit + RESERVATION, 0, NAUSTVRI_CIRCUIT_ZERO - RESERVATION); }
+
+static uint8_t set_up(uint8_t *table, size_t circuits, const struct call *call, uint8_t *answer)
+{
+    if (find(table, circuits, HOLDER, call->reference) != NONE)
+        return refuse(answer, NAUSTVRI_ALREADY_PRESENT);
+    int place = find(table, circuits, RESERVATION, call->reference);
+    bool own = place != NONE;
+    if (own) {
+        const uint8_t *circuit = table + place * NAUSTVRI_CIRCUIT_SIZE;
+        const uint8_t *holder = circuit + HOLDER, *reservation = circuit + RESERVATION;
+        if (reservation[LEVEL] != level_in(call->parameter) || !same_domain(reservation + DOMAIN, domain_in(call->parameter)))
+            return refuse(answer, NAUSTVRI_RESERVATION_DIFFERS);
+        if (holder[FLAG] && (holder[LEVEL] <= level_in(call->parameter) || !same_domain(holder + DOMAIN, domain_in(call->parameter))))
+            return refuse(answer, NAUSTVRI_HOLDER_NOT_LOWER);
+    } else {
+        place = choose(table, circuits, call->parameter);
+    }
+    if (place == NONE) {
+        if (level_in(call->parameter) == NAUSTVRI_ROUTINE)
+            return write_answer(answer, NAUSTVRI_NO_CIRCUIT_ROUTINE, NAUSTVRI_CAUSE_NO_CIRCUIT, NAUSTVRI_NO_PLACE);
+        return write_answer(answer, NAUSTVRI_NO_CIRCUIT_PRECEDENCE, NAUSTVRI_CAUSE_PRECEDENCE_CALL_BLOCKED, NAUSTVRI_NO_PLACE);
+    }
+    uint8_t *circuit = table + place * NAUSTVRI_CIRCUIT_SIZE;
+    bool call_lost = circuit[HOLDER], reservation_lost = circuit[RESERVATION] && !own;
+    uint8_t number = call_lost || reservation_lost ? NAUSTVRI_SEIZED_WITH_LOSS : NAUSTVRI_SEIZED;
+    write_answer(answer, number, NAUSTVRI_CAUSE_NONE, (unsigned)place);
+    if (call_lost)
+        lose(answer, NAUSTVRI_ANSWER_CALL_LOST, circuit + HOLDER);
+    if (reservation_lost)
+        lose(answer, NAUSTVRI_ANSWER_RESERVATION_LOST, circuit + RESERVATION);
+    empty_reservation(circuit);
+    fill_part(circuit + HOLDER, call);
+    return number;
+}
+
+static uint8_t look_ahead(uint8_t *table, size_t circuits, const struct call *call, uint8_t *answer)
+{
+    if (lfb_in(call->parameter) != NAUSTVRI_LFB_ALLOWED)
+        return refuse(answer, NAUSTVRI_LOOK_AHEAD_NOT_ALLOWED);
+    if (level_in(call->parameter) == NAUSTVRI_ROUTINE)
+        return refuse(answer, NAUSTVRI_LOOK_AHEAD_BY_ROUTINE);
+    if (find(table, circuits, HOLDER, call->reference) != NONE || find(table, circuits, RESERVATION, call->reference) != NONE)
+        return refuse(answer, NAUSTVRI_ALREADY_PRESENT);
+    int place = choose(table, circuits, call->parameter);
+    if (place == NONE)
+        return refuse(answer, NAUSTVRI_NO_CIRCUIT_LOOK_AHEAD);
+    uint8_t *circuit = table + place * NAUSTVRI_CIRCUIT_SIZE;
+    uint8_t number = circuit[RESERVATION] ? NAUSTVRI_RESERVED_WITH_LOSS : NAUSTVRI_RESERVED;
+    write_answer(answer, number, NAUSTVRI_CAUSE_NONE, (unsigned)place);
+    if (circuit[RESERVATION])
+        lose(answer, NAUSTVRI_ANSWER_RESERVATION_LOST, circuit + RESERVATION);
+    fill_part(circuit + RESERVATION, call);
+    for (int i = 0; i < 4; i++)
+        circuit[NAUSTVRI_CIRCUIT_RESERVATION_CLOCK + i] = (uint8_t)(call->clock >> 8 * i);
+    return number;
+}
+
+static uint8_t release(uint8_t *table, size_t circuits, const struct call *call, uint8_t *answer)
+{
+    int place = find(table, circuits, HOLDER, call->reference);
+    if (place == NONE)
+        return refuse(answer, NAUSTVRI_NOT_PRESENT);
+    empty_holder(table + place * NAUSTVRI_CIRCUIT_SIZE);
+    return write_answer(answer, NAUSTVRI_RELEASED, NAUSTVRI_CAUSE_NONE, (unsigned)place);
+}
+
+static uint8_t cancel(uint8_t *table, size_t circuits, const struct call *call, uint8_t *answer)
+{
+    int place = find(table, circuits, RESERVATION, call->reference);
+    if (place == NONE)
+        return refuse(answer, NAUSTVRI_NOT_PRESENT);
+    empty_reservation(table + place * NAUSTVRI_CIRCUIT_SIZE);
+    return write_answer(answer, NAUSTVRI_CANCELLED, NAUSTVRI_CAUSE_NONE, (unsigned)place);
+}
+
+static uint8_t take_clock(uint8_t *table, size_t circuits, const struct call *call, uint8_t *answer)
+{
+    unsigned removed = 0;
+    for (size_t i = 0; i < circuits; i++) {
+        uint8_t *circuit = table + i * NAUSTVRI_CIRCUIT_SIZE;
+        if (circuit[RESERVATION] &&
+            call->clock - read_clock(circuit + NAUSTVRI_CIRCUIT_RESERVATION_CLOCK) >= NAUSTVRI_RESERVATION_STEPS) {
+            empty_reservation(circuit);
+            removed++;
+        }
+    }
+    return write_answer(answer, NAUSTVRI_CLOCK_TAKEN, NAUSTVRI_CAUSE_NONE, removed);
+}
+
+/* One event over a table whose check is known. */
+static uint8_t apply(uint8_t *table, size_t circuits, bool table_valid, const uint8_t *event, uint8_t *answer)
+{
+    if (!event_ok(event))
+        return refuse(answer, NAUSTVRI_MALFORMED);
+    if (!table_valid)
+        return refuse(answer, NAUSTVRI_TABLE_NOT_VALID);
+    struct call call = {.parameter = event + NAUSTVRI_EVENT_PRECEDENCE, .clock = read_clock(event + NAUSTVRI_EVENT_CLOCK)};
+    memcpy(call.reference, event + NAUSTVRI_EVENT_REFERENCE, NAUSTVRI_REFERENCE_SIZE);
+    call.reference[4] &= 63;
+    switch (event[NAUSTVRI_EVENT_KIND]) {
+    case NAUSTVRI_SET_UP:
+        return set_up(table, circuits, &call, answer);
+    case NAUSTVRI_RELEASE:
+        return release(table, circuits, &call, answer);
+    case NAUSTVRI_LOOK_AHEAD:
+        return look_ahead(table, circuits, &call, answer);
+    case NAUSTVRI_CANCEL:
+        return cancel(table, circuits, &call, answer);
+    default:
+        return take_clock(table, circuits, &call, answer);
+    }
+}
+
+uint8_t plain_event(uint8_t *table, size_t table_len, const uint8_t *event, size_t event_len, uint8_t *answer, size_t answer_len)
+{
+    if (!table_length_ok(table_len) || event_len != NAUSTVRI_EVENT_SIZE || answer_len != NAUSTVRI_ANSWER_SIZE)
+        return NAUSTVRI_WRONG_LENGTH;
+    size_t circuits = table_len / NAUSTVRI_CIRCUIT_SIZE;
+    return apply(table, circuits, valid(table, circuits), event, answer);
+}
+
+uint8_t plain_list(uint8_t *table, size_t table_len, const uint8_t *events, size_t events_len, uint8_t *answers, size_t answers_len)
+{
+    if (!table_length_ok(table_len) || events_len % NAUSTVRI_EVENT_SIZE != 0 ||
+        events_len > NAUSTVRI_EVENTS_MOST * NAUSTVRI_EVENT_SIZE || answers_len != events_len)
+        return NAUSTVRI_WRONG_LENGTH;
+    size_t circuits = table_len / NAUSTVRI_CIRCUIT_SIZE;
+    bool table_valid = valid(table, circuits);
+    for (size_t i = 0; i < events_len; i += NAUSTVRI_EVENT_SIZE)
+        apply(table, circuits, table_valid, events + i, answers + i);
+    return NAUSTVRI_DONE;
+}

@@ -1,0 +1,27 @@
+#!/bin/sh
+# run.sh [ARCHIVE..]: counts the library's instructions beside those of plain C and prints the tables, in Markdown.
+# ARCHIVE: other archives with the functions of naustvri.h, in place of the library as it stands.
+. "$(dirname "$0")/../scripts/machine.sh"
+install_compiler
+install qemu-x86_64=qemu-user
+[ $# -gt 0 ] || set -- "$(library)"
+bench=$repository/bench out=$repository/target/bench
+mkdir -p "$out"
+clang_x86 -O3 -Wall -Wextra -I "$repository/include" -c -o "$out/plain.o" "$bench/plain.c"
+"$xcc" -O2 -Wall -Wextra -I "$repository/include" -static -no-pie -o "$out/bench" \
+    "$bench/bench.c" "$bench/workload.c" "$bench/stack.c" "$out/plain.o" "$@"
+
+# The results are compared before anything is counted.
+run_x86 "$out/bench" >"$out/rows"
+
+# The interface's version that this qemu takes is found by trying.
+mark=0x$("${xbin}nm" "$out/bench" | awk '$3 == "bench_mark" { print $1 }')
+for version in 1 2 3 4 5; do
+    gcc -O2 -Wall -Wextra -shared -fPIC -fvisibility=hidden -DPLUGIN_VERSION=$version -o "$out/counter.so" "$bench/counter.c"
+    rm -f "$out/marks"
+    env -i "$(command -v qemu-x86_64)" -cpu qemu64 -plugin "$out/counter.so,out=$out/marks,mark=$mark" "$out/bench" \
+        >"$out/rows.counted" 2>"$out/counter.log" && [ -s "$out/marks" ] && break
+done
+[ -s "$out/marks" ] || die "qemu counted nothing: $(cat "$out/counter.log")"
+cmp "$out/rows" "$out/rows.counted"
+awk -f "$bench/table.awk" "$out/marks" "$out/rows"

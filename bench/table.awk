@@ -1,0 +1,82 @@
+# table.awk MARKS ROWS: joins the counter's marks with the rows that the benchmark wrote, and prints the tables.
+BEGIN {
+    FS = "\t"
+    sizes = split("16 64 256", size, " ")
+    budget["check, every part present"] = "2,600 / 10,000 / 55,000"
+    budget["one event alone, mixed"] = "2,200 / 8,000 / 35,000"
+    budget["mixed list, an event"] = "500 / 1,600 / 6,100"
+}
+
+FILENAME == ARGV[1] { mark[NR] = $1; next }
+
+$1 == "stack" {
+    if (!($2 in stack_seen)) { stack_order[++stacks] = $2; stack_seen[$2] = 1 }
+    stack[$2, $3] = $4
+    next
+}
+
+$1 == "answers" {
+    if (!($2 in answer_seen)) { answer_order[++lists] = $2; answer_seen[$2] = 1 }
+    if ($3 == size[sizes]) answers[$2] = answers[$2] (answers[$2] ? ", " : "") $5 " × " $4
+    next
+}
+
+{
+    instructions = mark[2 * ++pairs] - mark[2 * pairs - 1]
+    if ($1 == "nothing") { nothing = instructions; next }
+    if (!($1 in seen)) { order[++kinds] = $1; seen[$1] = 1; sized[$1] = $2 }
+    sum[$1, $2, $3] += instructions - nothing
+    events[$1, $2, $3] += $4
+}
+
+function thousands(n,   digits, out) {
+    digits = sprintf("%.0f", n)
+    while (length(digits) > 3) { out = "," substr(digits, length(digits) - 2) out; digits = substr(digits, 1, length(digits) - 3) }
+    return digits out
+}
+
+function cost(what, circuits, side) { return sum[what, circuits, side] / events[what, circuits, side] }
+
+function at_sizes(what, side,   i, out) {
+    for (i = 1; i <= sizes; i++) out = out (i > 1 ? " / " : "") thousands(cost(what, size[i], side))
+    return out
+}
+
+function ratios(what,   i, out) {
+    for (i = 1; i <= sizes; i++)
+        out = out (i > 1 ? " / " : "") sprintf("%.2f", cost(what, size[i], "library") / cost(what, size[i], "plain"))
+    return out
+}
+
+function growth(what, side,   i, out) {
+    for (i = 2; i <= sizes; i++) out = out (i > 2 ? " / " : "") sprintf("%.1f", cost(what, size[i], side) / cost(what, size[i - 1], side))
+    return out
+}
+
+END {
+    print "| at 16 / 64 / 256 circuits | library | plain C | library : plain C | budget | library grows | plain C grows |"
+    print "|---|---|---|---|---|---|---|"
+    for (k = 1; k <= kinds; k++) {
+        what = order[k]
+        if (sized[what])
+            print "| " what " | " at_sizes(what, "library") " | " at_sizes(what, "plain") " | " ratios(what) " | " budget[what] \
+                " | " growth(what, "library") " | " growth(what, "plain") " |"
+    }
+    print ""
+    print "| one field | library | plain C | library : plain C |"
+    print "|---|---|---|---|"
+    for (k = 1; k <= kinds; k++) {
+        what = order[k]
+        if (!sized[what])
+            printf "| %s | %.1f | %.1f | %.2f |\n", what, cost(what, 0, "library"), cost(what, 0, "plain"), \
+                cost(what, 0, "library") / cost(what, 0, "plain")
+    }
+    print ""
+    print "| stack of one call, octets | library | plain C |"
+    print "|---|---|---|"
+    for (k = 1; k <= stacks; k++) print "| " stack_order[k] " | " stack[stack_order[k], "library"] " | " stack[stack_order[k], "plain"] " |"
+    print ""
+    print "| list at 256 circuits | answers: how many × which number |"
+    print "|---|---|"
+    for (k = 1; k <= lists; k++) print "| " answer_order[k] " | " answers[answer_order[k]] " |"
+}

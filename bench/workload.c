@@ -1,0 +1,194 @@
+/* The tables and lists of events that are counted. */
+#include "workload.h"
+
+#include <string.h>
+
+#include "plain.h"
+
+static uint64_t state;
+
+/* A number below n, from a xorshift generator. */
+static unsigned below(unsigned n)
+{
+    state ^= state << 13;
+    state ^= state >> 7;
+    state ^= state << 17;
+    return (unsigned)((state >> 33) % n);
+}
+
+/* The reference of the call with this number: no two of 16,777,216 calls share one. */
+static void write_call(uint8_t *octets, uint32_t call)
+{
+    struct naustvri_reference reference = {.identity = call * 2654435761u & 0xffffff, .point = (uint16_t)(call * 40503u & 0x3fff)};
+    plain_write_reference(octets, NAUSTVRI_REFERENCE_SIZE, reference);
+}
+
+static void write_parameter(uint8_t *octets, unsigned level, unsigned domain)
+{
+    struct naustvri_precedence value = {.level = (uint8_t)level, .digits = {0, 2, 4, (uint8_t)domain}, .service = 70000 + domain};
+    plain_write_precedence(octets, NAUSTVRI_PRECEDENCE_SIZE, value);
+}
+
+static void write_clock(uint8_t *octets, uint32_t clock)
+{
+    for (int i = 0; i < 4; i++)
+        octets[i] = (uint8_t)(clock >> 8 * i);
+}
+
+/* An event of a call with this number; a call is not named by its number where its reference is copied from the table. */
+static void make_event(uint8_t *event, enum naustvri_kind kind, unsigned level, unsigned domain, uint32_t call, uint32_t clock)
+{
+    memset(event, 0, NAUSTVRI_EVENT_SIZE);
+    event[NAUSTVRI_EVENT_KIND] = (uint8_t)kind;
+    if (kind == NAUSTVRI_SET_UP || kind == NAUSTVRI_LOOK_AHEAD)
+        write_parameter(event + NAUSTVRI_EVENT_PRECEDENCE, level, domain);
+    if (kind != NAUSTVRI_CLOCK)
+        write_call(event + NAUSTVRI_EVENT_REFERENCE, call);
+    write_clock(event + NAUSTVRI_EVENT_CLOCK, clock);
+}
+
+/* A part of a circuit, written by the product's own layout. */
+static void make_part(uint8_t *part, unsigned level, unsigned domain, uint32_t call)
+{
+    uint8_t parameter[NAUSTVRI_PRECEDENCE_SIZE];
+    write_parameter(parameter, level, domain);
+    part[0] = 1;
+    part[1] = (uint8_t)level;
+    memcpy(part + 2, parameter + 1, NAUSTVRI_DOMAIN_SIZE);
+    write_call(part + 7, call);
+}
+
+/* ROUTINE most often, FLASH OVERRIDE seldom. */
+static unsigned some_level(void)
+{
+    static const uint8_t levels[] = {4, 4, 4, 4, 4, 4, 4, 4, 3, 3, 3, 3, 3, 2, 2, 2, 2, 1, 1, 0};
+    return levels[below(sizeof levels)];
+}
+
+/* Three calls of four are in the first domain. */
+static unsigned some_domain(void) { return below(4) == 0; }
+
+/* Makes `event` one about a call that stands in the table: its part at `flag` of some circuit. False where none was met. */
+static int name_a_part(uint8_t *event, const struct workload *w, const uint8_t *table, size_t flag)
+{
+    for (int tries = 0; tries < 64; tries++) {
+        const uint8_t *part = table + below((unsigned)w->circuits) * NAUSTVRI_CIRCUIT_SIZE + flag;
+        if (!part[0])
+            continue;
+        memcpy(event + NAUSTVRI_EVENT_REFERENCE, part + 7, NAUSTVRI_REFERENCE_SIZE);
+        if (event[NAUSTVRI_EVENT_KIND] == NAUSTVRI_SET_UP)
+            memcpy(event + NAUSTVRI_EVENT_PRECEDENCE, part + 1, NAUSTVRI_PRECEDENCE_SIZE);
+        return 1;
+    }
+    return 0;
+}
+
+/* How often, of a hundred events, each kind comes; what is left are set-ups of new calls. */
+struct blend {
+    unsigned release, look_ahead, cancel, on_reservation, clock;
+    unsigned (*level)(void);
+};
+
+static void make_one(uint8_t *event, const struct workload *w, const uint8_t *table, const struct blend *b, uint32_t call)
+{
+    unsigned die = below(100), level = b->level(), domain = some_domain();
+    uint32_t clock = 12 * call;
+    unsigned limit = b->clock;
+    if (die < limit) {
+        make_event(event, NAUSTVRI_CLOCK, 0, 0, 0, clock);
+        return;
+    }
+    if (die < (limit += b->release)) {
+        make_event(event, NAUSTVRI_RELEASE, 0, 0, call, clock);
+        name_a_part(event, w, table, NAUSTVRI_CIRCUIT_HELD);
+        return;
+    }
+    if (die < (limit += b->cancel)) {
+        make_event(event, NAUSTVRI_CANCEL, 0, 0, call, clock);
+        name_a_part(event, w, table, NAUSTVRI_CIRCUIT_RESERVED);
+        return;
+    }
+    if (die < (limit += b->look_ahead)) {
+        make_event(event, NAUSTVRI_LOOK_AHEAD, level == NAUSTVRI_ROUTINE ? NAUSTVRI_PRIORITY : level, domain, call, clock);
+        return;
+    }
+    make_event(event, NAUSTVRI_SET_UP, level, domain, call, clock);
+    if (die < limit + b->on_reservation)
+        name_a_part(event, w, table, NAUSTVRI_CIRCUIT_RESERVED);
+}
+
+/* The route is run in before the list begins; the list is made a few events at a time from the table as it stands then, so that
+ * most releases and cancels find their call. */
+static void make_list(struct workload *w, const struct blend *blend)
+{
+    enum { AT_ONCE = 16 };
+    static uint8_t table[sizeof w->table], answers[AT_ONCE * NAUSTVRI_ANSWER_SIZE], events[AT_ONCE * NAUSTVRI_EVENT_SIZE];
+    size_t octets = w->circuits * NAUSTVRI_CIRCUIT_SIZE;
+    uint32_t call = (uint32_t)w->circuits, run_in = 4 * (uint32_t)w->circuits;
+    memcpy(table, w->table, octets);
+    for (uint32_t made = 0; made < run_in + NAUSTVRI_EVENTS_MOST; made += AT_ONCE) {
+        if (made == run_in)
+            memcpy(w->table, table, octets);
+        for (int i = 0; i < AT_ONCE; i++)
+            make_one(events + i * NAUSTVRI_EVENT_SIZE, w, table, blend, ++call);
+        if (made >= run_in)
+            memcpy(w->events + (made - run_in) * NAUSTVRI_EVENT_SIZE, events, sizeof events);
+        plain_list(table, octets, events, sizeof events, answers, sizeof answers);
+    }
+}
+
+static void begin(struct workload *w, const char *name, size_t circuits)
+{
+    state = 88172645463325252ull;
+    memset(w, 0, sizeof *w);
+    w->name = name;
+    w->circuits = circuits;
+}
+
+void make_mixed(struct workload *w, size_t circuits)
+{
+    static const struct blend blend = {.clock = 2, .release = 30, .cancel = 6, .look_ahead = 14, .on_reservation = 8, .level = some_level};
+    begin(w, "mixed", circuits);
+    make_list(w, &blend);
+}
+
+/* A step up from ROUTINE at each taking: every level but ROUTINE alike, with ROUTINE to fill what releases free. */
+static unsigned rising_level(void) { return below(5); }
+
+void make_take_heavy(struct workload *w, size_t circuits)
+{
+    static const struct blend blend = {.clock = 1, .release = 20, .cancel = 4, .look_ahead = 15, .on_reservation = 8, .level = rising_level};
+    begin(w, "take-heavy", circuits);
+    make_list(w, &blend);
+}
+
+void make_full_table(struct workload *w, size_t circuits)
+{
+    begin(w, "full table", circuits);
+    uint32_t call = 0;
+    for (size_t i = 0; i < circuits; i++)
+        make_part(w->table + i * NAUSTVRI_CIRCUIT_SIZE, NAUSTVRI_FLASH_OVERRIDE, some_domain(), ++call);
+    for (size_t i = 0; i < NAUSTVRI_EVENTS_MOST; i++) {
+        static const enum naustvri_kind kinds[] = {NAUSTVRI_SET_UP, NAUSTVRI_SET_UP, NAUSTVRI_SET_UP, NAUSTVRI_LOOK_AHEAD,
+                                                   NAUSTVRI_RELEASE, NAUSTVRI_CANCEL};
+        enum naustvri_kind kind = below(64) ? kinds[below(6)] : NAUSTVRI_CLOCK;
+        unsigned level = some_level();
+        if (kind == NAUSTVRI_LOOK_AHEAD && level == NAUSTVRI_ROUTINE)
+            level = NAUSTVRI_PRIORITY;
+        ++call;
+        make_event(w->events + i * NAUSTVRI_EVENT_SIZE, kind, level, some_domain(), call, call);
+    }
+}
+
+void make_all_parts(uint8_t *table, size_t circuits)
+{
+    uint32_t call = 0;
+    memset(table, 0, circuits * NAUSTVRI_CIRCUIT_SIZE);
+    for (size_t i = 0; i < circuits; i++) {
+        uint8_t *circuit = table + i * NAUSTVRI_CIRCUIT_SIZE;
+        unsigned level = 1 + below(4), domain = some_domain();
+        make_part(circuit + NAUSTVRI_CIRCUIT_HELD, level, domain, ++call);
+        make_part(circuit + NAUSTVRI_CIRCUIT_RESERVED, below(level), domain, ++call);
+        write_clock(circuit + NAUSTVRI_CIRCUIT_RESERVATION_CLOCK, call);
+    }
+}

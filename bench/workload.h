@@ -1,0 +1,27 @@
+/* The tables and lists of events that are counted. The same numbers come out on every machine. */
+#ifndef WORKLOAD_H
+#define WORKLOAD_H
+
+#include "naustvri.h"
+
+/* A table as it stands before the list, and the list. */
+struct workload {
+    const char *name;
+    size_t circuits;
+    uint8_t table[NAUSTVRI_CIRCUITS_MOST * NAUSTVRI_CIRCUIT_SIZE];
+    uint8_t events[NAUSTVRI_EVENTS_MOST * NAUSTVRI_EVENT_SIZE];
+};
+
+/* Calls of every kind in two domains over a route that is nearly always full. */
+void make_mixed(struct workload *w, size_t circuits);
+
+/* A full route on which most events are set-ups and look-aheads that take a circuit from a lower call. */
+void make_take_heavy(struct workload *w, size_t circuits);
+
+/* A route full of the highest level: every search goes to the end and every event but the clock is refused. */
+void make_full_table(struct workload *w, size_t circuits);
+
+/* A table whose every circuit has a holder and a reservation, so that the most references stand in it. */
+void make_all_parts(uint8_t *table, size_t circuits);
+
+#endif
