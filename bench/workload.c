@@ -68,8 +68,8 @@ static unsigned some_level(void)
 /* Three calls of four are in the first domain. */
 static unsigned some_domain(void) { return below(4) == 0; }
 
-/* Makes `event` one about a call that stands in the table: its part at `flag` of some circuit. False where none was met. */
-static int name_a_part(uint8_t *event, const struct workload *w, const uint8_t *table, size_t flag)
+/* Makes `event` one about a call that stands in the table: in the part at `flag` of some circuit, where one is met soon. */
+static void name_a_part(uint8_t *event, const struct workload *w, const uint8_t *table, size_t flag)
 {
     for (int tries = 0; tries < 64; tries++) {
         const uint8_t *part = table + below((unsigned)w->circuits) * NAUSTVRI_CIRCUIT_SIZE + flag;
@@ -78,59 +78,29 @@ static int name_a_part(uint8_t *event, const struct workload *w, const uint8_t *
         memcpy(event + NAUSTVRI_EVENT_REFERENCE, part + 7, NAUSTVRI_REFERENCE_SIZE);
         if (event[NAUSTVRI_EVENT_KIND] == NAUSTVRI_SET_UP)
             memcpy(event + NAUSTVRI_EVENT_PRECEDENCE, part + 1, NAUSTVRI_PRECEDENCE_SIZE);
-        return 1;
+        return;
     }
-    return 0;
 }
 
-/* How often, of a hundred events, each kind comes; what is left are set-ups of new calls. */
-struct blend {
-    unsigned release, look_ahead, cancel, on_reservation, clock;
-    unsigned (*level)(void);
-};
+/* Makes one event of a list, about the call with this number or one that stands in the table. */
+typedef void make_one(uint8_t *event, const struct workload *w, const uint8_t *table, uint32_t call);
 
-static void make_one(uint8_t *event, const struct workload *w, const uint8_t *table, const struct blend *b, uint32_t call)
-{
-    unsigned die = below(100), level = b->level(), domain = some_domain();
-    uint32_t clock = 12 * call;
-    unsigned limit = b->clock;
-    if (die < limit) {
-        make_event(event, NAUSTVRI_CLOCK, 0, 0, 0, clock);
-        return;
-    }
-    if (die < (limit += b->release)) {
-        make_event(event, NAUSTVRI_RELEASE, 0, 0, call, clock);
-        name_a_part(event, w, table, NAUSTVRI_CIRCUIT_HELD);
-        return;
-    }
-    if (die < (limit += b->cancel)) {
-        make_event(event, NAUSTVRI_CANCEL, 0, 0, call, clock);
-        name_a_part(event, w, table, NAUSTVRI_CIRCUIT_RESERVED);
-        return;
-    }
-    if (die < (limit += b->look_ahead)) {
-        make_event(event, NAUSTVRI_LOOK_AHEAD, level == NAUSTVRI_ROUTINE ? NAUSTVRI_PRIORITY : level, domain, call, clock);
-        return;
-    }
-    make_event(event, NAUSTVRI_SET_UP, level, domain, call, clock);
-    if (die < limit + b->on_reservation)
-        name_a_part(event, w, table, NAUSTVRI_CIRCUIT_RESERVED);
-}
+static uint32_t clock_at(uint32_t call) { return 12 * call; }
 
 /* The route is run in before the list begins; the list is made a few events at a time from the table as it stands then, so that
  * most releases and cancels find their call. */
-static void make_list(struct workload *w, const struct blend *blend)
+static void make_list(struct workload *w, make_one *make)
 {
     enum { AT_ONCE = 16 };
     static uint8_t table[sizeof w->table], answers[AT_ONCE * NAUSTVRI_ANSWER_SIZE], events[AT_ONCE * NAUSTVRI_EVENT_SIZE];
     size_t octets = w->circuits * NAUSTVRI_CIRCUIT_SIZE;
-    uint32_t call = (uint32_t)w->circuits, run_in = 4 * (uint32_t)w->circuits;
+    uint32_t call = (uint32_t)w->circuits, run_in = 8 * (uint32_t)w->circuits;
     memcpy(table, w->table, octets);
     for (uint32_t made = 0; made < run_in + NAUSTVRI_EVENTS_MOST; made += AT_ONCE) {
         if (made == run_in)
             memcpy(w->table, table, octets);
         for (int i = 0; i < AT_ONCE; i++)
-            make_one(events + i * NAUSTVRI_EVENT_SIZE, w, table, blend, ++call);
+            make(events + i * NAUSTVRI_EVENT_SIZE, w, table, ++call);
         if (made >= run_in)
             memcpy(w->events + (made - run_in) * NAUSTVRI_EVENT_SIZE, events, sizeof events);
         plain_list(table, octets, events, sizeof events, answers, sizeof answers);
@@ -145,21 +115,70 @@ static void begin(struct workload *w, const char *name, size_t circuits)
     w->circuits = circuits;
 }
 
-void make_mixed(struct workload *w, size_t circuits)
+/* Of a hundred events 30 releases, 14 look-aheads, 6 cancels, 2 clocks, 8 set-ups of reservers and 40 of new calls. */
+static void make_mixed_event(uint8_t *event, const struct workload *w, const uint8_t *table, uint32_t call)
 {
-    static const struct blend blend = {.clock = 2, .release = 30, .cancel = 6, .look_ahead = 14, .on_reservation = 8, .level = some_level};
-    begin(w, "mixed", circuits);
-    make_list(w, &blend);
+    unsigned die = below(100), level = some_level(), domain = some_domain();
+    uint32_t clock = clock_at(call);
+    if (die < 2) {
+        make_event(event, NAUSTVRI_CLOCK, 0, 0, 0, clock);
+    } else if (die < 32) {
+        make_event(event, NAUSTVRI_RELEASE, 0, 0, call, clock);
+        name_a_part(event, w, table, NAUSTVRI_CIRCUIT_HELD);
+    } else if (die < 38) {
+        make_event(event, NAUSTVRI_CANCEL, 0, 0, call, clock);
+        name_a_part(event, w, table, NAUSTVRI_CIRCUIT_RESERVED);
+    } else if (die < 52) {
+        make_event(event, NAUSTVRI_LOOK_AHEAD, level == NAUSTVRI_ROUTINE ? NAUSTVRI_PRIORITY : level, domain, call, clock);
+    } else {
+        make_event(event, NAUSTVRI_SET_UP, level, domain, call, clock);
+        if (die < 60)
+            name_a_part(event, w, table, NAUSTVRI_CIRCUIT_RESERVED);
+    }
 }
 
-/* A step up from ROUTINE at each taking: every level but ROUTINE alike, with ROUTINE to fill what releases free. */
-static unsigned rising_level(void) { return below(5); }
+void make_mixed(struct workload *w, size_t circuits)
+{
+    begin(w, "mixed", circuits);
+    make_list(w, make_mixed_event);
+}
+
+/* The part of a circuit that its standing mark is read from. */
+static const uint8_t *standing(const uint8_t *circuit)
+{
+    return circuit + (circuit[NAUSTVRI_CIRCUIT_RESERVED] ? NAUSTVRI_CIRCUIT_RESERVED : NAUSTVRI_CIRCUIT_HELD);
+}
+
+/* Looks at a few circuits, and a call one level above the lowest of them comes, one in five as a look-ahead. A free circuit is filled
+ * by ROUTINE; where only FLASH OVERRIDE is met, its call goes and ROUTINE fills the circuit. */
+static void make_taking_event(uint8_t *event, const struct workload *w, const uint8_t *table, uint32_t call)
+{
+    static int emptied;
+    const uint8_t *lowest = standing(table);
+    for (int looks = 0; looks < 8 && lowest[0]; looks++) {
+        const uint8_t *part = standing(table + below((unsigned)w->circuits) * NAUSTVRI_CIRCUIT_SIZE);
+        if (!part[0] || part[1] >= lowest[1])
+            lowest = part;
+    }
+    uint32_t clock = clock_at(call);
+    if (emptied || !lowest[0]) {
+        emptied = 0;
+        make_event(event, NAUSTVRI_SET_UP, NAUSTVRI_ROUTINE, some_domain(), call, clock);
+    } else if (lowest[1] != NAUSTVRI_FLASH_OVERRIDE) {
+        make_event(event, below(5) ? NAUSTVRI_SET_UP : NAUSTVRI_LOOK_AHEAD, 0, 0, call, clock);
+        memcpy(event + NAUSTVRI_EVENT_PRECEDENCE, lowest + 1, NAUSTVRI_PRECEDENCE_SIZE);
+        event[NAUSTVRI_EVENT_PRECEDENCE]--;
+    } else {
+        emptied = 1;
+        make_event(event, (lowest - table) % NAUSTVRI_CIRCUIT_SIZE ? NAUSTVRI_CANCEL : NAUSTVRI_RELEASE, 0, 0, call, clock);
+        memcpy(event + NAUSTVRI_EVENT_REFERENCE, lowest + 7, NAUSTVRI_REFERENCE_SIZE);
+    }
+}
 
 void make_take_heavy(struct workload *w, size_t circuits)
 {
-    static const struct blend blend = {.clock = 1, .release = 20, .cancel = 4, .look_ahead = 15, .on_reservation = 8, .level = rising_level};
     begin(w, "take-heavy", circuits);
-    make_list(w, &blend);
+    make_list(w, make_taking_event);
 }
 
 void make_full_table(struct workload *w, size_t circuits)

@@ -15,7 +15,7 @@ struct workload {
 /* Calls of every kind in two domains over a route that is nearly always full. */
 void make_mixed(struct workload *w, size_t circuits);
 
-/* A full route on which most events are set-ups and look-aheads that take a circuit from a lower call. */
+/* A full route on which two events of five take a circuit, or reserve it above its holder; most others empty and fill one. */
 void make_take_heavy(struct workload *w, size_t circuits);
 
 /* A route full of the highest level: every search goes to the end and every event but the clock is refused. */
