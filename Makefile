@@ -1,6 +1,8 @@
 # make test: everything that the gate asks. Its last line is 'N passed, 0 failed'.
 # make bench: the library's instructions beside those of plain C, in tables.
-.PHONY: test bench
+# make soak [SECONDS=600] [SEED=1]: the outside tests on ever other cases, with the seed of any difference.
+# make planted: errors planted in a stand-in for the library, each of which the outside tests find.
+.PHONY: test bench soak planted
 
 test:
 	@command -v rt >/dev/null || { echo "rt, the command of the Rattle toolchain, is not on the PATH" >&2; exit 1; }
@@ -9,3 +11,10 @@ test:
 
 bench:
 	@bench/run.sh
+
+SECONDS = 600
+soak:
+	@tests/run.sh seconds $(SECONDS) $(SEED)
+
+planted:
+	@tests/planted.sh

@@ -1,0 +1,150 @@
+// One call of the library: the request as the serving program takes it, and the response that the independent implementation expects.
+
+use crate::independent::{self, CallReference, Precedence};
+use crate::random::Random;
+
+const AT_END: u8 = 255;
+const FLUSH: u8 = 8;
+
+// The octets of the response before the buffers: number, guards, lamps lit, precedence, reference, words.
+pub const RESPONSE: usize = 56;
+
+pub struct Case {
+    pub what: &'static str,
+    pub request: Vec<u8>,
+    pub expected: Vec<u8>,
+}
+
+// What comes back beside the number.
+#[derive(Default)]
+struct Values {
+    precedence: Precedence,
+    reference: CallReference,
+    lit: u16,
+    words: [u64; 4],
+}
+
+fn write_precedence(octets: &mut Vec<u8>, value: &Precedence) {
+    octets.extend([value.level, value.lfb]);
+    octets.extend(value.digits);
+    octets.extend([0; 2]);
+    octets.extend(value.service.to_le_bytes());
+}
+
+fn write_reference(octets: &mut Vec<u8>, value: &CallReference) {
+    octets.extend(value.identity.to_le_bytes());
+    octets.extend(value.point.to_le_bytes());
+    octets.extend([0; 2]);
+}
+
+fn request(random: &mut Random, entry: u8, precedence: &Precedence, reference: &CallReference, buffers: &[&[u8]]) -> Vec<u8> {
+    let mut octets = vec![entry];
+    for _ in 0..3 {
+        octets.push(if random.once_in(3) { AT_END } else { random.below(16) as u8 });
+    }
+    for i in 0..3 {
+        octets.extend((buffers.get(i).map_or(0, |b| b.len()) as u32).to_le_bytes());
+    }
+    write_precedence(&mut octets, precedence);
+    write_reference(&mut octets, reference);
+    buffers.iter().for_each(|b| octets.extend(*b));
+    octets
+}
+
+fn response(number: u8, values: &Values, buffers: &[&[u8]]) -> Vec<u8> {
+    let mut octets = vec![number, 1];
+    octets.extend(values.lit.to_le_bytes());
+    write_precedence(&mut octets, &values.precedence);
+    write_reference(&mut octets, &values.reference);
+    values.words.iter().for_each(|w| octets.extend(w.to_le_bytes()));
+    buffers.iter().for_each(|b| octets.extend(*b));
+    octets
+}
+
+// The serving program writes out what it holds back.
+pub fn flush() -> Vec<u8> {
+    request(&mut Random::new(0), FLUSH, &Precedence::default(), &CallReference::default(), &[])
+}
+
+// A call that takes one buffer which stays as it is.
+fn reading(random: &mut Random, what: &'static str, entry: u8, octets: &[u8], number: u8, values: Values) -> Case {
+    Case {
+        what,
+        request: request(random, entry, &Precedence::default(), &CallReference::default(), &[octets]),
+        expected: response(number, &values, &[octets]),
+    }
+}
+
+pub fn read_precedence(random: &mut Random, octets: &[u8]) -> Case {
+    let (number, precedence) = independent::read_precedence(octets);
+    reading(random, "read precedence", 0, octets, number, Values { precedence, ..Values::default() })
+}
+
+pub fn write_precedence_in(random: &mut Random, buffer: &[u8], value: &Precedence) -> Case {
+    let mut after = buffer.to_vec();
+    let number = independent::write_precedence(&mut after, value);
+    Case {
+        what: "write precedence",
+        request: request(random, 1, value, &CallReference::default(), &[buffer]),
+        expected: response(number, &Values::default(), &[&after]),
+    }
+}
+
+pub fn read_reference(random: &mut Random, octets: &[u8]) -> Case {
+    let (number, reference) = independent::read_reference(octets);
+    reading(random, "read reference", 2, octets, number, Values { reference, ..Values::default() })
+}
+
+pub fn write_reference_in(random: &mut Random, buffer: &[u8], value: &CallReference) -> Case {
+    let mut after = buffer.to_vec();
+    let number = independent::write_reference(&mut after, value);
+    Case {
+        what: "write reference",
+        request: request(random, 3, &Precedence::default(), value, &[buffer]),
+        expected: response(number, &Values::default(), &[&after]),
+    }
+}
+
+pub fn check(random: &mut Random, table: &[u8]) -> Case {
+    reading(random, "check", 4, table, independent::check(table), Values::default())
+}
+
+pub fn lamps(random: &mut Random, table: &[u8]) -> Case {
+    let (number, lit, words) = independent::lamps(table);
+    reading(random, "lamps", 7, table, number, Values { lit, words, ..Values::default() })
+}
+
+// A call that takes a table, one or more events and room for the answers, with what it is expected to leave.
+pub struct Application<'a> {
+    pub table: &'a [u8],
+    pub events: &'a [u8],
+    pub answers: &'a [u8],
+}
+
+impl Application<'_> {
+    fn case(&self, random: &mut Random, what: &'static str, entry: u8, number: u8, table: &[u8], answers: &[u8]) -> Case {
+        let before = [self.table, self.events, self.answers];
+        Case {
+            what,
+            request: request(random, entry, &Precedence::default(), &CallReference::default(), &before),
+            expected: response(number, &Values::default(), &[table, self.events, answers]),
+        }
+    }
+
+    pub fn event(&self, random: &mut Random) -> Case {
+        let (mut table, mut answer) = (self.table.to_vec(), self.answers.to_vec());
+        let number = independent::event(&mut table, self.events, &mut answer);
+        self.case(random, "event", 5, number, &table, &answer)
+    }
+
+    pub fn list(&self, random: &mut Random) -> Case {
+        let (mut table, mut answers) = (self.table.to_vec(), self.answers.to_vec());
+        let number = independent::list(&mut table, self.events, &mut answers);
+        self.case(random, "list", 6, number, &table, &answers)
+    }
+
+    // A list whose events were applied one by one already, as it was made.
+    pub fn list_carried_out(&self, random: &mut Random, table: &[u8], answers: &[u8]) -> Case {
+        self.case(random, "list", 6, 0, table, answers)
+    }
+}

@@ -1,0 +1,433 @@
+// Document 01 read a second time: an implementation that shares nothing with the library, in the words of the document and with no
+// eye on cost. Tables and events become plain values, the rules work on these, and the result becomes octets again.
+
+use std::cmp::Reverse;
+use std::collections::BTreeSet;
+
+pub const ROUTINE: u8 = 4;
+pub const RESERVATION_LIMIT: u32 = 3000;
+pub const CIRCUIT: usize = 32;
+pub const EVENT: usize = 16;
+pub const ANSWER: usize = 16;
+
+pub type Domain = [u8; 5];
+pub type Reference = [u8; 5];
+
+#[derive(Clone, Copy, PartialEq, Eq, Debug)]
+pub struct Mark {
+    pub level: u8,
+    pub domain: Domain,
+}
+
+#[derive(Clone, Copy, PartialEq, Eq, Debug)]
+pub struct Call {
+    pub mark: Mark,
+    pub reference: Reference,
+}
+
+#[derive(Clone, Copy, PartialEq, Eq, Debug, Default)]
+pub struct Circuit {
+    pub holder: Option<Call>,
+    pub reservation: Option<(Call, u32)>,
+}
+
+impl Mark {
+    // Strictly higher in the same domain: 0 is the highest level.
+    fn above(&self, other: &Mark) -> bool {
+        self.domain == other.domain && self.level < other.level
+    }
+}
+
+impl Circuit {
+    fn standing(&self) -> Option<Mark> {
+        match (self.reservation, self.holder) {
+            (Some((call, _)), _) => Some(call.mark),
+            (None, Some(call)) => Some(call.mark),
+            (None, None) => None,
+        }
+    }
+
+    fn is_free(&self) -> bool {
+        self.standing().is_none()
+    }
+
+    fn held_by(&self, reference: Reference) -> bool {
+        self.holder.map_or(false, |call| call.reference == reference)
+    }
+
+    fn reserved_by(&self, reference: Reference) -> bool {
+        self.reservation.map_or(false, |(call, _)| call.reference == reference)
+    }
+}
+
+pub fn five(octets: &[u8]) -> [u8; 5] {
+    [octets[0], octets[1], octets[2], octets[3], octets[4]]
+}
+
+fn four_octet_number(octets: &[u8]) -> u32 {
+    u32::from_le_bytes([octets[0], octets[1], octets[2], octets[3]])
+}
+
+fn zero(octets: &[u8]) -> bool {
+    octets.iter().all(|&o| o == 0)
+}
+
+// The four network identity digits, each 0 to 9.
+fn digits(domain: &[u8]) -> [u8; 4] {
+    [domain[0] >> 4, domain[0] & 0x0f, domain[1] >> 4, domain[1] & 0x0f]
+}
+
+fn decimal(domain: &[u8]) -> bool {
+    digits(domain).iter().all(|&d| d <= 9)
+}
+
+// Message fields.
+
+#[derive(Clone, Copy, PartialEq, Eq, Debug, Default)]
+pub struct Precedence {
+    pub level: u8,
+    pub lfb: u8,
+    pub digits: [u8; 4],
+    pub service: u32,
+}
+
+#[derive(Clone, Copy, PartialEq, Eq, Debug, Default)]
+pub struct CallReference {
+    pub identity: u32,
+    pub point: u16,
+}
+
+pub fn read_precedence(octets: &[u8]) -> (u8, Precedence) {
+    if octets.len() != 6 {
+        return (20, Precedence::default());
+    }
+    let value = Precedence {
+        level: octets[0] & 0x0f,
+        lfb: (octets[0] >> 5) & 0x03,
+        digits: digits(&octets[1..3]),
+        service: u32::from_be_bytes([0, octets[3], octets[4], octets[5]]),
+    };
+    if value.level > 4 || value.lfb == 3 || !decimal(&octets[1..3]) {
+        return (22, Precedence::default());
+    }
+    (0, value)
+}
+
+pub fn write_precedence(buffer: &mut [u8], value: &Precedence) -> u8 {
+    if buffer.len() != 6 {
+        return 20;
+    }
+    if value.level > 4 || value.lfb > 2 || value.digits.iter().any(|&d| d > 9) || value.service > 0xff_ffff {
+        return 22;
+    }
+    let service = value.service.to_be_bytes();
+    buffer[0] = value.lfb << 5 | value.level;
+    buffer[1] = value.digits[0] << 4 | value.digits[1];
+    buffer[2] = value.digits[2] << 4 | value.digits[3];
+    buffer[3..].copy_from_slice(&service[1..]);
+    0
+}
+
+pub fn read_reference(octets: &[u8]) -> (u8, CallReference) {
+    if octets.len() != 5 {
+        return (20, CallReference::default());
+    }
+    let identity = u32::from_le_bytes([octets[0], octets[1], octets[2], 0]);
+    let point = u16::from_le_bytes([octets[3], octets[4] & 0x3f]);
+    (0, CallReference { identity, point })
+}
+
+pub fn write_reference(buffer: &mut [u8], value: &CallReference) -> u8 {
+    if buffer.len() != 5 {
+        return 20;
+    }
+    if value.identity > 0xff_ffff || value.point > 0x3fff {
+        return 22;
+    }
+    buffer[..3].copy_from_slice(&value.identity.to_le_bytes()[..3]);
+    buffer[3..].copy_from_slice(&value.point.to_le_bytes());
+    0
+}
+
+// Tables.
+
+fn table_length_is_right(octets: usize) -> bool {
+    octets % CIRCUIT == 0 && (1..=256).contains(&(octets / CIRCUIT))
+}
+
+// The first 12 octets of a part: None where they break a rule, Some(None) where the part is absent.
+fn read_part(octets: &[u8]) -> Option<Option<Call>> {
+    match octets[0] {
+        0 if zero(octets) => Some(None),
+        1 if octets[1] <= 4 && decimal(&octets[2..4]) && octets[11] & 0xc0 == 0 => Some(Some(Call {
+            mark: Mark { level: octets[1], domain: five(&octets[2..7]) },
+            reference: five(&octets[7..12]),
+        })),
+        _ => None,
+    }
+}
+
+fn read_circuit(octets: &[u8]) -> Option<Circuit> {
+    let holder = read_part(&octets[..12])?;
+    let reserver = read_part(&octets[12..24])?;
+    let clock = four_octet_number(&octets[24..28]);
+    if !zero(&octets[28..]) || (reserver.is_none() && clock != 0) {
+        return None;
+    }
+    if let (Some(holder), Some(reserver)) = (holder, reserver) {
+        if !reserver.mark.above(&holder.mark) {
+            return None;
+        }
+    }
+    Some(Circuit { holder, reservation: reserver.map(|call| (call, clock)) })
+}
+
+// The circuits of a table of right length, if it is valid.
+pub fn read_table(table: &[u8]) -> Option<Vec<Circuit>> {
+    let circuits = table.chunks(CIRCUIT).map(read_circuit).collect::<Option<Vec<Circuit>>>()?;
+    let mut references = BTreeSet::new();
+    for circuit in &circuits {
+        for call in circuit.holder.iter().chain(circuit.reservation.iter().map(|(call, _)| call)) {
+            if !references.insert(call.reference) {
+                return None;
+            }
+        }
+    }
+    Some(circuits)
+}
+
+fn write_call(octets: &mut Vec<u8>, call: Option<&Call>) {
+    match call {
+        None => octets.extend([0; 12]),
+        Some(call) => {
+            octets.extend([1, call.mark.level]);
+            octets.extend(call.mark.domain);
+            octets.extend(call.reference);
+        }
+    }
+}
+
+pub fn write_table(circuits: &[Circuit]) -> Vec<u8> {
+    let mut octets = Vec::new();
+    for circuit in circuits {
+        write_call(&mut octets, circuit.holder.as_ref());
+        write_call(&mut octets, circuit.reservation.as_ref().map(|(call, _)| call));
+        octets.extend(circuit.reservation.map_or(0, |(_, clock)| clock).to_le_bytes());
+        octets.extend([0; 4]);
+    }
+    octets
+}
+
+pub fn check(table: &[u8]) -> u8 {
+    if !table_length_is_right(table.len()) {
+        20
+    } else if read_table(table).is_none() {
+        21
+    } else {
+        0
+    }
+}
+
+// Number, how many are lit, and the four words.
+pub fn lamps(table: &[u8]) -> (u8, u16, [u64; 4]) {
+    let number = check(table);
+    let mut words = [0; 4];
+    let mut lit = 0;
+    if number == 0 {
+        for (place, circuit) in read_table(table).unwrap().iter().enumerate() {
+            if circuit.is_free() {
+                words[place / 64] |= 1 << (place % 64);
+                lit += 1;
+            }
+        }
+    }
+    (number, lit, words)
+}
+
+// Events.
+
+#[derive(Clone, Copy, Debug)]
+enum Event {
+    SetUp(Call),
+    Release(Reference),
+    LookAhead(Call, u8, u32),
+    Cancel(Reference),
+    Clock(u32),
+}
+
+// None where the event is malformed.
+fn read_event(octets: &[u8]) -> Option<Event> {
+    let parameter = &octets[1..7];
+    let mut reference = five(&octets[7..12]);
+    reference[4] &= 0x3f;
+    let clock = four_octet_number(&octets[12..]);
+    let (number, precedence) = read_precedence(parameter);
+    let call = Call { mark: Mark { level: precedence.level, domain: five(&parameter[1..]) }, reference };
+    match octets[0] {
+        1 if number == 0 => Some(Event::SetUp(call)),
+        2 if zero(parameter) => Some(Event::Release(reference)),
+        3 if number == 0 => Some(Event::LookAhead(call, precedence.lfb, clock)),
+        4 if zero(parameter) => Some(Event::Cancel(reference)),
+        5 if zero(&octets[1..12]) => Some(Event::Clock(clock)),
+        _ => None,
+    }
+}
+
+#[derive(Clone, Copy, Default)]
+struct Answer {
+    number: u8,
+    place: Option<usize>,
+    lost_call: Option<Reference>,
+    lost_reservation: Option<Reference>,
+}
+
+fn refused(number: u8) -> Answer {
+    Answer { number, ..Answer::default() }
+}
+
+fn write_lost(octets: &mut [u8], lost: Option<Reference>) {
+    if let Some(reference) = lost {
+        octets[0] = 1;
+        octets[1..6].copy_from_slice(&reference);
+    }
+}
+
+fn write_answer(octets: &mut [u8], answer: &Answer) {
+    octets.fill(0);
+    octets[0] = answer.number;
+    octets[1] = match answer.number {
+        30 => 34,
+        31 => 46,
+        _ => 0,
+    };
+    octets[2..4].copy_from_slice(&answer.place.map_or(65535, |place| place as u16).to_le_bytes());
+    write_lost(&mut octets[4..10], answer.lost_call);
+    write_lost(&mut octets[10..16], answer.lost_reservation);
+}
+
+// The lowest-numbered free circuit; else of the takeable ones the greatest level number, one with no holder first, the lowest number.
+fn choose(circuits: &[Circuit], mark: &Mark) -> Option<usize> {
+    circuits.iter().position(Circuit::is_free).or_else(|| {
+        let takeable = circuits.iter().enumerate().filter_map(|(place, circuit)| {
+            let standing = circuit.standing()?;
+            mark.above(&standing).then(|| (standing.level, circuit.holder.is_none(), Reverse(place)))
+        });
+        takeable.max().map(|(_, _, Reverse(place))| place)
+    })
+}
+
+fn set_up(circuits: &mut [Circuit], call: Call) -> Answer {
+    if circuits.iter().any(|c| c.held_by(call.reference)) {
+        return refused(25);
+    }
+    let own = circuits.iter().position(|c| c.reserved_by(call.reference));
+    if let Some(place) = own {
+        let (reserver, _) = circuits[place].reservation.unwrap();
+        if reserver.mark != call.mark {
+            return refused(26);
+        }
+        if circuits[place].holder.map_or(false, |holder| !call.mark.above(&holder.mark)) {
+            return refused(28);
+        }
+    }
+    let place = match own.or_else(|| choose(circuits, &call.mark)) {
+        Some(place) => place,
+        None => return refused(if call.mark.level == ROUTINE { 30 } else { 31 }),
+    };
+    let before = std::mem::replace(&mut circuits[place], Circuit { holder: Some(call), reservation: None });
+    let lost_call = before.holder.map(|holder| holder.reference);
+    let lost_reservation = before.reservation.map(|(reserver, _)| reserver.reference).filter(|&r| r != call.reference);
+    let number = if lost_call.is_some() || lost_reservation.is_some() { 2 } else { 1 };
+    Answer { number, place: Some(place), lost_call, lost_reservation }
+}
+
+fn look_ahead(circuits: &mut [Circuit], call: Call, lfb: u8, clock: u32) -> Answer {
+    if lfb != 0 {
+        return refused(23);
+    }
+    if call.mark.level == ROUTINE {
+        return refused(24);
+    }
+    if circuits.iter().any(|c| c.held_by(call.reference) || c.reserved_by(call.reference)) {
+        return refused(25);
+    }
+    let place = match choose(circuits, &call.mark) {
+        Some(place) => place,
+        None => return refused(32),
+    };
+    let before = circuits[place].reservation.replace((call, clock));
+    let lost_reservation = before.map(|(reserver, _)| reserver.reference);
+    let number = if lost_reservation.is_some() { 4 } else { 3 };
+    Answer { number, place: Some(place), lost_call: None, lost_reservation }
+}
+
+fn release(circuits: &mut [Circuit], reference: Reference) -> Answer {
+    match circuits.iter().position(|c| c.held_by(reference)) {
+        None => refused(27),
+        Some(place) => {
+            circuits[place].holder = None;
+            Answer { number: 5, place: Some(place), ..Answer::default() }
+        }
+    }
+}
+
+fn cancel(circuits: &mut [Circuit], reference: Reference) -> Answer {
+    match circuits.iter().position(|c| c.reserved_by(reference)) {
+        None => refused(27),
+        Some(place) => {
+            circuits[place].reservation = None;
+            Answer { number: 6, place: Some(place), ..Answer::default() }
+        }
+    }
+}
+
+fn take_clock(circuits: &mut [Circuit], clock: u32) -> Answer {
+    let mut removed = 0;
+    for circuit in circuits {
+        if circuit.reservation.map_or(false, |(_, stored)| clock.wrapping_sub(stored) >= RESERVATION_LIMIT) {
+            circuit.reservation = None;
+            removed += 1;
+        }
+    }
+    Answer { number: 7, place: Some(removed), ..Answer::default() }
+}
+
+// One event whose lengths are right.
+fn apply(table: &mut [u8], event: &[u8], answer: &mut [u8]) {
+    let given = match (read_event(event), read_table(table)) {
+        (None, _) => refused(22),
+        (Some(_), None) => refused(21),
+        (Some(event), Some(mut circuits)) => {
+            let given = match event {
+                Event::SetUp(call) => set_up(&mut circuits, call),
+                Event::Release(reference) => release(&mut circuits, reference),
+                Event::LookAhead(call, lfb, clock) => look_ahead(&mut circuits, call, lfb, clock),
+                Event::Cancel(reference) => cancel(&mut circuits, reference),
+                Event::Clock(clock) => take_clock(&mut circuits, clock),
+            };
+            table.copy_from_slice(&write_table(&circuits));
+            given
+        }
+    };
+    write_answer(answer, &given);
+}
+
+pub fn event(table: &mut [u8], event: &[u8], answer: &mut [u8]) -> u8 {
+    if !table_length_is_right(table.len()) || event.len() != EVENT || answer.len() != ANSWER {
+        return 20;
+    }
+    apply(table, event, answer);
+    answer[0]
+}
+
+// A list is its events applied one by one.
+pub fn list(table: &mut [u8], events: &[u8], answers: &mut [u8]) -> u8 {
+    let count = events.len() / EVENT;
+    if !table_length_is_right(table.len()) || events.len() % EVENT != 0 || count > 4096 || answers.len() != count * ANSWER {
+        return 20;
+    }
+    for (event, answer) in events.chunks(EVENT).zip(answers.chunks_mut(ANSWER)) {
+        apply(table, event, answer);
+    }
+    0
+}

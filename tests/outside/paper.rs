@@ -1,0 +1,64 @@
+// P1 to P12 and the paper's other examples, copied from document 01 by hand: the independent implementation is held to them first.
+
+use crate::independent;
+
+const SET_UP: u8 = 1;
+const RELEASE: u8 = 2;
+const LOOK_AHEAD: u8 = 3;
+const CLOCK: u8 = 5;
+
+// Kind, level, call identity, clock; zero domain, point code 1, LFB allowed.
+fn event(kind: u8, level: u8, identity: u8, clock: u32) -> [u8; 16] {
+    let mut octets = [0; 16];
+    octets[0] = kind;
+    octets[1] = level;
+    if kind != CLOCK {
+        octets[7] = identity;
+        octets[10] = 1;
+    }
+    octets[12..].copy_from_slice(&clock.to_le_bytes());
+    octets
+}
+
+// Answer, cause, number and the lost call's identity, as a line of the program's output has them.
+fn line(table: &mut [u8], event: [u8; 16]) -> (u8, u8, u16, u8) {
+    let mut answer = [0xff; 16];
+    let number = independent::event(table, &event, &mut answer);
+    assert_eq!(number, answer[0]);
+    assert!(answer[10..].iter().all(|&o| o == 0));
+    (answer[0], answer[1], u16::from_le_bytes([answer[2], answer[3]]), answer[5])
+}
+
+pub fn hold() {
+    let table = &mut [0; 64];
+    assert_eq!(line(table, event(SET_UP, 4, 1, 0)), (1, 0, 0, 0));
+    assert_eq!(line(table, event(LOOK_AHEAD, 2, 2, 100)), (3, 0, 1, 0));
+    assert_eq!(line(table, event(SET_UP, 3, 3, 0)), (2, 0, 0, 1));
+    assert_eq!(line(table, event(SET_UP, 3, 4, 0)), (31, 46, 65535, 0));
+    assert_eq!(line(table, event(RELEASE, 0, 1, 0)), (27, 0, 65535, 0));
+    assert_eq!(line(table, event(CLOCK, 0, 0, 3099)), (7, 0, 0, 0));
+    assert_eq!(line(table, event(CLOCK, 0, 0, 3100)), (7, 0, 1, 0));
+    assert_eq!(line(table, event(SET_UP, 3, 4, 0)), (1, 0, 1, 0));
+    assert_eq!(line(table, event(SET_UP, 4, 5, 0)), (30, 34, 65535, 0));
+
+    for (reserved, clock, removed) in [(4294967000, 2703, 0), (4294967000, 2704, 1), (100, 99, 1)] {
+        let table = &mut [0; 32];
+        assert_eq!(line(table, event(LOOK_AHEAD, 2, 2, reserved)), (3, 0, 0, 0));
+        assert_eq!(line(table, event(CLOCK, 0, 0, clock)), (7, 0, removed, 0));
+    }
+
+    let (number, value) = independent::read_precedence(&[0x22, 0, 0, 0, 0, 0]);
+    assert_eq!((number, value.level, value.lfb), (0, 2, 1));
+    assert_eq!(independent::read_precedence(&[0x62, 0, 0, 0, 0, 0]).0, 22);
+
+    let table = &mut [0; 32];
+    assert_eq!(line(table, event(SET_UP, 3, 1, 0)), (1, 0, 0, 0));
+    assert_eq!(line(table, event(SET_UP, 3, 2, 0)), (31, 46, 65535, 0));
+    assert_eq!(line(table, event(SET_UP, 3, 1, 0)), (25, 0, 65535, 0));
+    let table = &mut [0; 32];
+    assert_eq!(line(table, event(SET_UP, 4, 1, 0)), (1, 0, 0, 0));
+    let mut elsewhere = event(SET_UP, 1, 2, 0);
+    elsewhere[6] = 1;
+    assert_eq!(line(table, elsewhere), (31, 46, 65535, 0));
+    assert_eq!((independent::check(&[]), independent::check(&[0; 257 * 32])), (20, 20));
+}

@@ -1,0 +1,12 @@
+#!/bin/sh
+# run.sh                        the outside tests of the gate: the library against the independent implementation, always the same cases
+# run.sh seconds COUNT [SEED]   other cases for so many seconds, with a line now and then and the seed of any difference
+# run.sh rounds COUNT SEED      so many rounds from a seed; one round where a difference is to come again
+. "$(dirname "$0")/build.sh"
+unit=${1:-rounds} count=${2:-200} seed=${3:-1}
+[ "$unit" = rounds ] || seed=${3:-$(date +%s)}
+install_compiler
+build_driver
+build_server "$out/serve" "$(library)"
+[ "$unit" = rounds ] || echo "outside: from seed $seed"
+outside "$seed" "$unit" "$count" "$out/serve"

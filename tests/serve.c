@@ -1,0 +1,154 @@
+/* Serves the library over standard input and output, so that a program for any machine can hold it to its own results.
+ *
+ * A request is a `struct request`, then the octets of up to three buffers in the order in which the function takes them; its response
+ * is a `struct response`, then the same buffers as the function left them. Request FLUSH has no response: all that came before is
+ * written out. Each buffer lies between guard octets or ends where no memory is; the response says whether the guards stand. */
+#define _GNU_SOURCE
+#include <stdio.h>
+#include <stdlib.h>
+#include <string.h>
+#include <sys/mman.h>
+
+#include "naustvri.h"
+
+enum entry { READ_PRECEDENCE, WRITE_PRECEDENCE, READ_REFERENCE, WRITE_REFERENCE, CHECK, EVENT, LIST, LAMPS, FLUSH };
+
+enum { BUFFERS = 3, LONGEST = 1 << 17, GUARD = 64, GUARD_OCTET = 0x5a, PAGE = 4096, AT_END = 255 };
+
+struct request {
+    uint8_t entry;
+    uint8_t place[BUFFERS]; /* how far from an aligned place each buffer starts; AT_END: it ends where no memory is */
+    uint32_t length[BUFFERS];
+    struct naustvri_precedence precedence; /* to be written */
+    struct naustvri_reference reference;
+};
+
+struct response {
+    uint8_t number;
+    uint8_t guards_stand;
+    uint16_t lit;
+    struct naustvri_precedence precedence; /* as read */
+    struct naustvri_reference reference;
+    uint64_t words[4];
+};
+
+/* Memory for one buffer with guards, and no memory behind it. */
+struct arena {
+    uint8_t *from, *end, *buffer;
+    size_t length;
+};
+
+static struct arena make_arena(void)
+{
+    struct arena a;
+    a.from = mmap(NULL, LONGEST + 2 * PAGE, PROT_READ | PROT_WRITE, MAP_PRIVATE | MAP_ANONYMOUS, -1, 0);
+    if (a.from == MAP_FAILED)
+        exit(2);
+    a.end = a.from + LONGEST + PAGE;
+    if (mprotect(a.end, PAGE, PROT_NONE) != 0)
+        exit(2);
+    memset(a.from, GUARD_OCTET, (size_t)(a.end - a.from));
+    return a;
+}
+
+static void put_buffer(struct arena *a, size_t length, uint8_t place)
+{
+    a->length = length;
+    a->buffer = place == AT_END ? a->end - length : a->from + GUARD + place;
+    if (fread(a->buffer, 1, length, stdin) != length)
+        exit(2);
+}
+
+static int all_guard(const uint8_t *from, const uint8_t *to)
+{
+    for (; from < to; from++)
+        if (*from != GUARD_OCTET)
+            return 0;
+    return 1;
+}
+
+static int guards_stand(const struct arena *a)
+{
+    const uint8_t *behind = a->buffer + a->length, *last = a->end - behind < GUARD ? a->end : behind + GUARD;
+    return all_guard(a->buffer - GUARD, a->buffer) && all_guard(behind, last);
+}
+
+/* Members are copied one by one, so that no padding of the library's goes into a response. */
+static void call(const struct request *q, const struct arena *a, struct response *r)
+{
+    struct naustvri_precedence_reading precedence;
+    struct naustvri_reference_reading reference;
+    struct naustvri_lamps lamps;
+    switch (q->entry) {
+    case READ_PRECEDENCE:
+        precedence = naustvri_read_precedence(a[0].buffer, a[0].length);
+        r->number = precedence.number;
+        r->precedence.level = precedence.value.level;
+        r->precedence.lfb = precedence.value.lfb;
+        memcpy(r->precedence.digits, precedence.value.digits, sizeof r->precedence.digits);
+        r->precedence.service = precedence.value.service;
+        break;
+    case WRITE_PRECEDENCE:
+        r->number = naustvri_write_precedence(a[0].buffer, a[0].length, q->precedence);
+        break;
+    case READ_REFERENCE:
+        reference = naustvri_read_reference(a[0].buffer, a[0].length);
+        r->number = reference.number;
+        r->reference.identity = reference.value.identity;
+        r->reference.point = reference.value.point;
+        break;
+    case WRITE_REFERENCE:
+        r->number = naustvri_write_reference(a[0].buffer, a[0].length, q->reference);
+        break;
+    case CHECK:
+        r->number = naustvri_check(a[0].buffer, a[0].length);
+        break;
+    case EVENT:
+        r->number = naustvri_event(a[0].buffer, a[0].length, a[1].buffer, a[1].length, a[2].buffer, a[2].length);
+        break;
+    case LIST:
+        r->number = naustvri_list(a[0].buffer, a[0].length, a[1].buffer, a[1].length, a[2].buffer, a[2].length);
+        break;
+    case LAMPS:
+        lamps = naustvri_lamps(a[0].buffer, a[0].length);
+        r->number = lamps.number;
+        r->lit = lamps.lit;
+        memcpy(r->words, lamps.words, sizeof r->words);
+        break;
+    default:
+        exit(2);
+    }
+}
+
+int main(void)
+{
+    struct arena arenas[BUFFERS];
+    struct request q;
+    setvbuf(stdin, NULL, _IOFBF, 1 << 20);
+    setvbuf(stdout, NULL, _IOFBF, 1 << 20);
+    for (int i = 0; i < BUFFERS; i++)
+        arenas[i] = make_arena();
+    while (fread(&q, sizeof q, 1, stdin) == 1) {
+        if (q.entry == FLUSH) {
+            fflush(stdout);
+            continue;
+        }
+        struct response r;
+        memset(&r, 0, sizeof r);
+        r.guards_stand = 1;
+        for (int i = 0; i < BUFFERS; i++) {
+            if (q.length[i] > LONGEST)
+                exit(2);
+            put_buffer(&arenas[i], q.length[i], q.place[i]);
+        }
+        call(&q, arenas, &r);
+        for (int i = 0; i < BUFFERS; i++)
+            r.guards_stand &= guards_stand(&arenas[i]);
+        fwrite(&r, sizeof r, 1, stdout);
+        for (int i = 0; i < BUFFERS; i++) {
+            fwrite(arenas[i].buffer, 1, arenas[i].length, stdout);
+            memset(arenas[i].buffer, GUARD_OCTET, arenas[i].length);
+        }
+    }
+    return 0;
+}
