@@ -13,11 +13,17 @@ const AT_ONCE: usize = 256;
 // A case and the seed of the round that it belongs to.
 type Pending = (u64, Case);
 
+// Why comparing stopped before the last case.
+enum Stop {
+    Different(String),
+    NoResponse(String),
+}
+
 pub struct Exchange {
     server: Child,
     to: Option<BufWriter<ChildStdin>>,
     pending: Option<SyncSender<Pending>>,
-    comparing: Option<JoinHandle<Result<(), String>>>,
+    comparing: Option<JoinHandle<Result<(), Stop>>>,
     sent: usize,
 }
 
@@ -53,19 +59,25 @@ impl Exchange {
         drop(self.pending.take());
         let compared = self.comparing.take().unwrap().join().expect("the comparing thread ends");
         let ended = self.server.wait().expect("the serving program ends");
-        compared.and_then(|()| if ended.success() { Ok(()) } else { Err(format!("the serving program ended with {}", ended)) })
+        match compared {
+            Err(Stop::Different(said)) => Err(said),
+            Err(Stop::NoResponse(said)) => Err(format!("{}: {}", said, ended)),
+            Ok(()) if ended.success() => Ok(()),
+            Ok(()) => Err(format!("the serving program ended with {}", ended)),
+        }
     }
 }
 
-fn compare(mut from: BufReader<ChildStdout>, waiting: Receiver<Pending>) -> Result<(), String> {
+fn compare(mut from: BufReader<ChildStdout>, waiting: Receiver<Pending>) -> Result<(), Stop> {
     let mut given = Vec::new();
     for (seed, case) in waiting {
         given.resize(case.expected.len(), 0);
         if from.read_exact(&mut given).is_err() {
-            return Err(format!("seed {}: the serving program ended at a case of {}, or soon after it", seed, case.what));
+            let said = format!("seed {}: the serving program ended at a case of {}, or soon after it", seed, case.what);
+            return Err(Stop::NoResponse(said));
         }
         if given != case.expected {
-            return Err(difference(seed, &case, &given));
+            return Err(Stop::Different(difference(seed, &case, &given)));
         }
     }
     Ok(())
