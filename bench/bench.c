@@ -246,6 +246,8 @@ int main(void)
     for (size_t i = 0; i < sizeof sizes / sizeof *sizes; i++) {
         make_all_parts(all_parts, sizes[i]);
         bench_check("check, every part present", all_parts, sizes[i]);
+        make_all_parts_alike(all_parts, sizes[i]);
+        bench_check("check, references made against the filter", all_parts, sizes[i]);
         for (size_t j = 0; j < sizeof workloads / sizeof *workloads; j++) {
             char what[64];
             workloads[j](&work, sizes[i]);

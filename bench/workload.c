@@ -211,3 +211,16 @@ void make_all_parts(uint8_t *table, size_t circuits)
         write_clock(circuit + NAUSTVRI_CIRCUIT_RESERVATION_CLOCK, call);
     }
 }
+
+void make_all_parts_alike(uint8_t *table, size_t circuits)
+{
+    /* crates/references: a reference, as one number, has the bits v % 6143 and v / 6143 % 6144. */
+    const uint64_t apart = 6143 * 6144;
+    make_all_parts(table, circuits);
+    for (uint64_t i = 0; i < 2 * circuits; i++) {
+        uint8_t *part = table + i / 2 * NAUSTVRI_CIRCUIT_SIZE + (i % 2 ? NAUSTVRI_CIRCUIT_RESERVED : NAUSTVRI_CIRCUIT_HELD);
+        uint64_t v = 12345 + apart * i;
+        struct naustvri_reference reference = {.identity = (uint32_t)(v & 0xffffff), .point = (uint16_t)(v >> 24)};
+        plain_write_reference(part + 7, NAUSTVRI_REFERENCE_SIZE, reference);
+    }
+}
