@@ -2,9 +2,12 @@
 # run.sh [ARCHIVE..]: counts the library's instructions beside those of plain C and prints the tables, in Markdown.
 # ARCHIVE: other archives with the functions of naustvri.h, in place of the library as it stands.
 . "$(dirname "$0")/../scripts/machine.sh"
-install_compiler
-install qemu-x86_64=qemu-user
-[ $# -gt 0 ] || set -- "$(library)"
+need_compiler
+need qemu-x86_64=qemu-user
+if [ $# = 0 ]; then
+    archive=$(library)
+    set -- "$archive"
+fi
 bench=$repository/bench out=$repository/target/bench
 mkdir -p "$out"
 clang_x86 -O3 -Wall -Wextra -I "$repository/include" -c -o "$out/plain.o" "$bench/plain.c"

@@ -15,8 +15,8 @@ aarch64) xcc=x86_64-linux-gnu-gcc xbin=x86_64-linux-gnu- ;;
 *) die "programs for x86-64 are not built on $machine" ;;
 esac
 
-# install COMMAND=PACKAGE..: by name from Debian each PACKAGE whose COMMAND is missing; needs root where something is.
-install() {
+# need COMMAND=PACKAGE..: installs by name from Debian each PACKAGE whose COMMAND is missing; asks for root where something is.
+need() {
     missing=
     for pair; do
         command -v "${pair%%=*}" >/dev/null 2>&1 || missing="$missing ${pair#*=}"
@@ -31,10 +31,10 @@ install() {
 }
 
 # The C compiler for x86-64 with its C library, and what runs x86-64 programs on another machine.
-install_compiler() {
-    install gcc="gcc libc6-dev"
+need_compiler() {
+    need gcc="gcc libc6-dev"
     [ "$machine" = x86_64 ] ||
-        install x86_64-linux-gnu-gcc="gcc-x86-64-linux-gnu libc6-dev-amd64-cross" qemu-x86_64=qemu-user
+        need x86_64-linux-gnu-gcc="gcc-x86-64-linux-gnu libc6-dev-amd64-cross" qemu-x86_64=qemu-user
 }
 
 # run_x86 PROGRAM ARGUMENTS..: natively, or under the emulator.

@@ -6,7 +6,7 @@ mkdir -p "$out"
 
 # build_driver: the independent implementation with its cases, for this machine.
 build_driver() {
-    install rustc=rustc
+    need rustc=rustc
     rustc -O --edition 2021 -o "$out/outside" "$repository/tests/outside/main.rs"
 }
 

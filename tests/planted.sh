@@ -2,7 +2,7 @@
 # planted.sh: shows that the outside tests find errors. Plain C stands in for the library: as it is, nothing is found; with each single
 # error of planted.txt, a difference is found, and the line says after how long.
 . "$(dirname "$0")/build.sh"
-install_compiler
+need_compiler
 build_driver
 plain=$repository/bench/plain.c planted=$repository/tests/planted.txt
 

@@ -5,8 +5,9 @@
 . "$(dirname "$0")/build.sh"
 unit=${1:-rounds} count=${2:-200} seed=${3:-1}
 [ "$unit" = rounds ] || seed=${3:-$(date +%s)}
-install_compiler
+need_compiler
 build_driver
-build_server "$out/serve" "$(library)"
+archive=$(library)
+build_server "$out/serve" "$archive"
 [ "$unit" = rounds ] || echo "outside: from seed $seed"
 outside "$seed" "$unit" "$count" "$out/serve"
