@@ -4,6 +4,7 @@ ghost use Rattle.rules.specs.Records.{checkNumber};
 ghost use Rattle.fields.specs.Precedence as precedence;
 ghost use Rattle.fields.specs.Reference as reference;
 ghost use Rattle.lamps.specs.Lamps.{lampMap};
+ghost use Rattle.route.specs.Entries.{eventNumber, eventTable, eventAnswer, listNumber, listTable, listAnswers};
 ghost use Rattle.naustvri.specs.Handed.{precedenceOf, precedenceHanded, referenceOf, referenceHanded, lampsHanded};
 
 #[repr(C)]
@@ -106,6 +107,24 @@ pub extern "C" fn naustvri_check(table: &[u8]) -> u8
     ensures { λ r. ⌜ r ≡ checkNumber (now (table .entry)) ⌝ }
 {
     validity::check(table)
+}
+
+#[no_mangle]
+pub extern "C" fn naustvri_event(table: &mut [u8], event: &[u8], answer: &mut [u8]) -> u8
+    ensures { λ r. ⌜ r ≡ eventNumber (now (table .entry)) (now (event .entry)) (now (answer .entry)) ⌝ }
+    ensures { λ _. ⌜ now (table .exit) ≡ eventTable (now (table .entry)) (now (event .entry)) (now (answer .entry)) ⌝ }
+    ensures { λ _. ⌜ now (answer .exit) ≡ eventAnswer (now (table .entry)) (now (event .entry)) (now (answer .entry)) ⌝ }
+{
+    route::event(table, event, answer)
+}
+
+#[no_mangle]
+pub extern "C" fn naustvri_list(table: &mut [u8], events: &[u8], answers: &mut [u8]) -> u8
+    ensures { λ r. ⌜ r ≡ listNumber (now (table .entry)) (now (events .entry)) (now (answers .entry)) ⌝ }
+    ensures { λ _. ⌜ now (table .exit) ≡ listTable (now (table .entry)) (now (events .entry)) (now (answers .entry)) ⌝ }
+    ensures { λ _. ⌜ now (answers .exit) ≡ listAnswers (now (table .entry)) (now (events .entry)) (now (answers .entry)) ⌝ }
+{
+    route::list(table, events, answers)
 }
 
 #[no_mangle]
