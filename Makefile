@@ -7,6 +7,7 @@
 test:
 	@command -v rt >/dev/null || { echo "rt, the command of the Rattle toolchain, is not on the PATH" >&2; exit 1; }
 	rt fmt --check
+	@tests/run.sh
 	rt ci
 
 bench:
