@@ -79,8 +79,8 @@ static void bench_lamps(const char *what, const uint8_t *table, size_t circuits)
         COUNT(lamps[s - sides] = s->lamps(table, circuits * NAUSTVRI_CIRCUIT_SIZE));
         counted(what, circuits, s, 1);
     }
-    if (lamps[0].number != lamps[1].number || lamps[0].lit != lamps[1].lit)
-        must_be_equal(what, "0", "1", 1);
+    must_be_equal(what, &lamps[0].number, &lamps[1].number, sizeof lamps[0].number);
+    must_be_equal(what, &lamps[0].lit, &lamps[1].lit, sizeof lamps[0].lit);
     must_be_equal(what, lamps[0].words, lamps[1].words, sizeof lamps[0].words);
 }
 
@@ -126,25 +126,32 @@ static void bench_fields(const struct workload *w)
     for (size_t i = 0; i < NAUSTVRI_EVENTS_MOST; i++) {
         const uint8_t *event = w->events + i * NAUSTVRI_EVENT_SIZE;
         const uint8_t *parameter = event + NAUSTVRI_EVENT_PRECEDENCE, *octets = event + NAUSTVRI_EVENT_REFERENCE;
+        struct naustvri_precedence_reading precedence[SIDES];
+        struct naustvri_reference_reading reference[SIDES];
+        uint8_t written[SIDES][NAUSTVRI_PRECEDENCE_SIZE + NAUSTVRI_REFERENCE_SIZE] = {{0}}, numbers[SIDES][2];
         if (event[NAUSTVRI_EVENT_KIND] != NAUSTVRI_SET_UP)
             continue;
         for EACH_SIDE (s) {
-            struct naustvri_precedence_reading precedence;
-            struct naustvri_reference_reading reference;
-            uint8_t written[NAUSTVRI_PRECEDENCE_SIZE] = {0}, number;
-            COUNT(precedence = s->read_precedence(parameter, NAUSTVRI_PRECEDENCE_SIZE));
+            size_t k = (size_t)(s - sides);
+            COUNT(precedence[k] = s->read_precedence(parameter, NAUSTVRI_PRECEDENCE_SIZE));
             counted("read precedence", 0, s, 1);
-            COUNT(number = s->write_precedence(written, NAUSTVRI_PRECEDENCE_SIZE, precedence.value));
+            COUNT(numbers[k][0] = s->write_precedence(written[k], NAUSTVRI_PRECEDENCE_SIZE, precedence[k].value));
             counted("write precedence", 0, s, 1);
-            must_be_equal("precedence", written, parameter, NAUSTVRI_PRECEDENCE_SIZE);
-            COUNT(reference = s->read_reference(octets, NAUSTVRI_REFERENCE_SIZE));
+            COUNT(reference[k] = s->read_reference(octets, NAUSTVRI_REFERENCE_SIZE));
             counted("read reference", 0, s, 1);
-            COUNT(number |= s->write_reference(written, NAUSTVRI_REFERENCE_SIZE, reference.value));
+            COUNT(numbers[k][1] = s->write_reference(written[k] + NAUSTVRI_PRECEDENCE_SIZE, NAUSTVRI_REFERENCE_SIZE, reference[k].value));
             counted("write reference", 0, s, 1);
-            must_be_equal("reference", written, octets, NAUSTVRI_REFERENCE_SIZE);
-            number |= precedence.number | reference.number;
-            must_be_equal("numbers of the fields", &number, "", 1);
         }
+        must_be_equal("the numbers of reading", (uint8_t[]){precedence[0].number, reference[0].number},
+                      (uint8_t[]){precedence[1].number, reference[1].number}, 2);
+        must_be_equal("the numbers of writing", numbers[0], numbers[1], sizeof numbers[0]);
+        must_be_equal("level", &precedence[0].value.level, &precedence[1].value.level, sizeof precedence[0].value.level);
+        must_be_equal("LFB", &precedence[0].value.lfb, &precedence[1].value.lfb, sizeof precedence[0].value.lfb);
+        must_be_equal("digits", precedence[0].value.digits, precedence[1].value.digits, sizeof precedence[0].value.digits);
+        must_be_equal("service", &precedence[0].value.service, &precedence[1].value.service, sizeof precedence[0].value.service);
+        must_be_equal("identity", &reference[0].value.identity, &reference[1].value.identity, sizeof reference[0].value.identity);
+        must_be_equal("point code", &reference[0].value.point, &reference[1].value.point, sizeof reference[0].value.point);
+        must_be_equal("the octets written", written[0], written[1], sizeof written[0]);
     }
 }
 
@@ -161,7 +168,7 @@ static void write_answer_counts(const struct workload *w)
 
 /* The measured callers: one for each entry, over the greatest table. */
 static const struct side *painted;
-static struct workload work;
+static struct workload work, mixed;
 static volatile uint8_t number_painted;
 
 static char *call_read_precedence(void)
@@ -198,9 +205,12 @@ static char *call_check(void)
     return STACK_POINTER();
 }
 
+/* Enough events of the list that each kind is among them. */
 static char *call_event(void)
 {
-    number_painted = painted->event(work.table, sizeof work.table, work.events, NAUSTVRI_EVENT_SIZE, results[0].answers, NAUSTVRI_ANSWER_SIZE);
+    for (int i = 0; i < 256; i++)
+        number_painted = painted->event(work.table, sizeof work.table, work.events + i * NAUSTVRI_EVENT_SIZE, NAUSTVRI_EVENT_SIZE,
+                                        results[0].answers, NAUSTVRI_ANSWER_SIZE);
     return STACK_POINTER();
 }
 
@@ -230,7 +240,7 @@ static void write_stacks(void)
     for EACH_SIDE (s) {
         painted = s;
         for (size_t i = 0; i < sizeof entries / sizeof *entries; i++) {
-            make_mixed(&work, NAUSTVRI_CIRCUITS_MOST);
+            work = mixed;
             printf("stack\t%s\t%s\t%zu\n", entries[i].name, s->name, stack_used(entries[i].caller));
         }
     }
@@ -261,8 +271,8 @@ int main(void)
             }
         }
     }
-    make_mixed(&work, NAUSTVRI_CIRCUITS_MOST);
-    bench_fields(&work);
+    make_mixed(&mixed, NAUSTVRI_CIRCUITS_MOST);
+    bench_fields(&mixed);
     write_stacks();
     return 0;
 }

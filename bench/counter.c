@@ -12,12 +12,14 @@
 #include <string.h>
 
 struct qemu_plugin_tb;
+struct qemu_plugin_insn;
 enum qemu_plugin_cb_flags { QEMU_PLUGIN_CB_NO_REGS };
 void qemu_plugin_register_vcpu_tb_trans_cb(uint64_t id, void (*)(uint64_t id, struct qemu_plugin_tb *));
-void qemu_plugin_register_vcpu_tb_exec_cb(struct qemu_plugin_tb *, void (*)(unsigned, void *), enum qemu_plugin_cb_flags, void *);
+void qemu_plugin_register_vcpu_insn_exec_cb(struct qemu_plugin_insn *, void (*)(unsigned, void *), enum qemu_plugin_cb_flags, void *);
 void qemu_plugin_register_atexit_cb(uint64_t id, void (*)(uint64_t id, void *), void *);
 size_t qemu_plugin_tb_n_insns(const struct qemu_plugin_tb *);
-uint64_t qemu_plugin_tb_vaddr(const struct qemu_plugin_tb *);
+struct qemu_plugin_insn *qemu_plugin_tb_get_insn(const struct qemu_plugin_tb *, size_t);
+uint64_t qemu_plugin_insn_vaddr(const struct qemu_plugin_insn *);
 
 #define EXPORT __attribute__((visibility("default")))
 EXPORT int qemu_plugin_version = PLUGIN_VERSION;
@@ -25,25 +27,27 @@ EXPORT int qemu_plugin_version = PLUGIN_VERSION;
 static FILE *out;
 static uint64_t mark, executed;
 
-static void at_mark(unsigned processor, void *instructions)
+static void at_instruction(unsigned processor, void *unused)
 {
-    (void)processor;
+    (void)processor, (void)unused;
+    executed++;
+}
+
+static void at_mark(unsigned processor, void *unused)
+{
     fprintf(out, "%" PRIu64 "\n", executed);
-    executed += (uintptr_t)instructions;
+    at_instruction(processor, unused);
 }
 
-static void at_block(unsigned processor, void *instructions)
-{
-    (void)processor;
-    executed += (uintptr_t)instructions;
-}
-
-/* A called function begins a block of its own, so the mark is the start of one. */
+/* Instruction by instruction: what qemu says of a whole block counts one too many where the block ends at the end of a page. */
 static void translated(uint64_t id, struct qemu_plugin_tb *block)
 {
     (void)id;
-    qemu_plugin_register_vcpu_tb_exec_cb(block, qemu_plugin_tb_vaddr(block) == mark ? at_mark : at_block, QEMU_PLUGIN_CB_NO_REGS,
-                                         (void *)(uintptr_t)qemu_plugin_tb_n_insns(block));
+    for (size_t i = 0; i < qemu_plugin_tb_n_insns(block); i++) {
+        struct qemu_plugin_insn *instruction = qemu_plugin_tb_get_insn(block, i);
+        qemu_plugin_register_vcpu_insn_exec_cb(instruction, qemu_plugin_insn_vaddr(instruction) == mark ? at_mark : at_instruction,
+                                               QEMU_PLUGIN_CB_NO_REGS, NULL);
+    }
 }
 
 static void ended(uint64_t id, void *unused)
