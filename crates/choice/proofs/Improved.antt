@@ -1,14 +1,15 @@
--- A circuit of greater worth takes the place if it is takeable, and no other does.
+-- A circuit of a lower precedence and of greater worth takes the place if it is takeable, and no other does.
 use Prim.Native.Nat.{ℕ, _<_, _≤_}
 use mathlib.Core.Path.{_≡_, refl, sym, ap, ap₂, _∙_}
-use mathlib.Core.Bool.{Bool, true, false, cond}
+use mathlib.Core.Bool.{Bool, true, false, cond, not}
 use native.Mathlib.Omega.{arith}
 use lib.Dec.{ltb}
 use borrow.Author.Tests.{lt-ltb, le-ltb}
-use Rattle.octets.proofs.Tests.{by-so}
+use Rattle.octets.specs.Same.{same}
+use Rattle.octets.proofs.Tests.{by-so, second-off}
 use Rattle.rules.specs.declared.mark.Mark.{Mark}
 use Rattle.rules.specs.declared.circuit.Circuit.{Circuit}
-use Rattle.rules.specs.Circuit.{takeable, worth, rank}
+use Rattle.rules.specs.Circuit.{outranks, standing, free, takeable, worth, rank}
 use Rattle.rules.proofs.Choice.{rank-taken, rank-not}
 use Rattle.choice.specs.declared.Best.{Best}
 use Rattle.choice.specs.Best.{improved}
@@ -24,6 +25,11 @@ module _ (b : Best) (m : Mark) (c : Circuit) (i : ℕ) where
 
   pub not-taken : takeable m c ≡ false → b ≡ improved b (rank m c) i
   not-taken t = stays (let z = rank-not m c t in omega arith)
+
+  pub not-lower : ltb (m .level .0) (standing c .level .0) ≡ false → b ≡ improved b (rank m c) i
+  unfolding takeable
+  not-lower h =
+      not-taken (sym (second-off (not (free c)) (outranks m (standing c)) (sym (second-off (same (m .domain) (standing c .domain)) (ltb (m .level .0) (standing c .level .0)) h))))
 
   pub not-worth : worth c ≤ b .rank → b ≡ improved b (rank m c) i
   not-worth l = stays (by-so (takeable m c) (λ t. let z = rank-taken m c t in omega arith) (λ t. let z = rank-not m c t in omega arith))

@@ -17,10 +17,13 @@ struct Best {
 }
 
 impl Best {
-    // The best after circuit i: of equals the earlier one stays. Its worth is compared before its mark, which seldom has to be.
+    // The best after circuit i: of equals the earlier one stays. Its level and its worth are compared before its domain, which seldom has to be.
     fn improved(self, circuit: Circuit, by: Mark, i: usize) -> Best
         ensures { λ r. ⌜ r ≡ improved self (rank by circuit) i ⌝ }
     {
+        if !by.level.higher(circuit.standing().level) {
+            return self;
+        }
         let worth = circuit.worth();
         if worth <= self.rank {
             return self;

@@ -1,8 +1,9 @@
--- What is decided names a circuit that a search found, so one that is there.
-use Prim.Native.Nat.{ℕ, _<_}
+-- What is decided names a circuit that a search found, so one that is there; and over a valid table its record is in order.
+use Prim.Native.Nat.{ℕ, _/_, _<_}
 use mathlib.Core.Path.{_≡_, sym, subst}
-use mathlib.Core.Bool.{Bool, _||_, not, cond}
+use mathlib.Core.Bool.{Bool, true, _||_, not, cond}
 use mathlib.Core.List.{List}
+use lib.ListN.{length}
 use lib.Dec.{eqb}
 use Rattle.octets.proofs.Tests.{by-test}
 use Rattle.rules.specs.declared.mark.Mark.{Mark}
@@ -20,10 +21,18 @@ use Rattle.rules.specs.Search.{found, firstTo}
 use Rattle.rules.specs.Circuit.{isRoutine, outranks, sameMark, isOf}
 use Rattle.rules.specs.Choice.{heldBy, reservedBy, choice}
 use Rattle.rules.specs.Decision.{onReservation, blocked, setUp, lookAhead, release, cancel, decision}
+use Rattle.rules.specs.Valid.{valid}
+use Rattle.rules.specs.Records.{circuitAt, records}
+use Rattle.rules.proofs.Faults.{valid-facts}
 use Rattle.rules.proofs.Searches.{FirstIs, first-is}
 use Rattle.rules.proofs.Choice.{ChoiceIs, choice-is}
-use Rattle.decision.specs.Within.{Within}
+use Rattle.decision.specs.Ready.{Ready}
 use Rattle.decision.proofs.Findings.{Below}
+
+abbrev Within : ℕ → Outcome → Type 0  -- one of n circuits, where it names one
+Within n (Refuse r) = Unit {0}
+Within n (Do a i) = i < n
+Within n Clock = Unit {0}
 
 module _ (n : ℕ) where
   first-below : (f : ℕ → Bool) → Below n (firstTo f n)
@@ -80,7 +89,7 @@ module _ (n : ℕ) where
           (λ _. tt))
           (λ _. tt)
 
-      pub within : Within n (decision x n e)
+      within : Within n (decision x n e)
       unfolding decision release cancel
       within =
           by-test (Within n) (eqb (e .kind) 1) (setUp x n e) _ (λ _. set-up)
@@ -93,3 +102,13 @@ module _ (n : ℕ) where
           by-test (Within n) (eqb (e .kind) 4) (cancel x n e) Clock
           (λ _. by-found (reservedBy x n (e .reference)) (Do Cancel) (Refuse NotThere) (reserved-below (e .reference)) (λ i l. l) tt)
           (λ _. tt))))
+
+-- over a valid table
+pub ready : (t : List ℕ) → valid records t ≡ true → (e : Event) → Ready t (decision (circuitAt t) (length t / 32) e)
+unfolding records
+ready t v e = go (decision (circuitAt t) (length t / 32) e) (within (length t / 32) (circuitAt t) e)
+  where
+    go : (o : Outcome) → Within (length t / 32) o → Ready t o
+    go (Refuse r) h = tt
+    go (Do a i) h = let f = valid-facts records t v in (h, f .flags i h, f .blank i h)
+    go Clock h = tt

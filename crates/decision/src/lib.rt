@@ -19,7 +19,7 @@ ghost use Rattle.rules.specs.Decision as rule;
 ghost use Rattle.rules.specs.Valid.{valid};
 ghost use Rattle.rules.specs.Run as run;
 ghost use Rattle.rules.specs.Records.{circuitAt, records};
-ghost use Rattle.decision.specs.Within.{Within};
+ghost use Rattle.decision.specs.Ready.{Ready};
 
 // Nobody holds the circuit, or one whom the mark outranks.
 fn yields(holder: Part, by: Mark) -> bool
@@ -155,7 +155,7 @@ fn decision(t: &[u8], e: Event) -> Outcome
 pub fn decide(t: &[u8], e: Event, good: bool) -> Outcome
     requires { ⌜ good ≡ valid records (now t) ⌝ }
     ensures { λ r. ⌜ r ≡ run.decide records (now (t .entry)) e ⌝ }
-    ensures { λ r. ⌜ Within (length (now (t .entry)) / 32) r ⌝ }
+    ensures { λ r. ⌜ Ready (now (t .entry)) r ⌝ }
 {
     if !e.well_formed() {
         return Outcome::Refuse(Refusal::Malformed);

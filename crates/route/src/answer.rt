@@ -15,7 +15,7 @@ ghost use Rattle.rules.specs.Search.{countTo};
 ghost use Rattle.rules.specs.Circuit.{nobody, overdue};
 ghost use Rattle.rules.specs.Answer.{noLoser, losers, anothers, answerOf};
 ghost use Rattle.rules.specs.Records.{circuitAt};
-ghost use Rattle.decision.specs.Within.{Within};
+ghost use Rattle.decision.specs.Ready.{Ready};
 
 // An absent party.
 fn nobody() -> Part
@@ -113,7 +113,7 @@ fn removed(t: &[u8], clock: u32) -> u16
 
 // The answer to what was decided, before the table is changed.
 pub fn answer(t: &[u8], e: Event, o: Outcome) -> Answer
-    requires { ⌜ (length (now t) / 32 ≤ 256) × Within (length (now t) / 32) o ⌝ }
+    requires { ⌜ (length (now t) / 32 ≤ 256) × Ready (now t) o ⌝ }
     ensures { λ r. ⌜ r ≡ answerOf (circuitAt (now (t .entry))) (length (now (t .entry)) / 32) e o ⌝ }
 {
     match o {

@@ -10,15 +10,29 @@ ghost use Rattle.rules.specs.Circuit.{overdue, made};
 ghost use Rattle.rules.specs.Run.{sweepTo};
 ghost use Rattle.rules.specs.Run as run;
 ghost use Rattle.rules.specs.Records.{circuitAt, putCircuit, records};
-ghost use Rattle.decision.specs.Within.{Within};
+ghost use Rattle.decision.specs.Ready.{Ready};
 
-// An act, done on circuit i.
-fn act(t: &mut [u8], e: Event, a: Act, i: usize)
+// Circuit i, made anew and written whole.
+fn renew(t: &mut [u8], e: Event, a: Act, i: usize)
     requires { ⌜ i < length (now t) / 32 ⌝ }
     ensures { λ _. ⌜ now (t .exit) ≡ putCircuit (now (t .entry)) i (made e a (circuitAt (now (t .entry)) i)) ⌝ }
 {
     let c = table::circuit_at(t, i);
     table::store(t, i, c.made(e, a));
+}
+
+// The same where the record is in order: only the part that the act changes is written, since that is what most events cost.
+fn act(t: &mut [u8], e: Event, a: Act, i: usize)
+    requires { ⌜ Ready (now t) (Outcome.Do a i) ⌝ }
+    ensures { λ _. ⌜ now (t .exit) ≡ putCircuit (now (t .entry)) i (made e a (circuitAt (now (t .entry)) i)) ⌝ }
+{
+    let c = table::circuit_at(t, i).made(e, a);
+    match a {
+        Act::Seize => table::store(t, i, c),
+        Act::Reserve => table::store_reservation(t, i, c.reservation, c.clock),
+        Act::Release => table::store_holder(t, i, c.holder),
+        Act::Cancel => table::store_reservation(t, i, c.reservation, c.clock),
+    }
 }
 
 // The reservation on circuit i, removed if it is overdue.
@@ -27,7 +41,7 @@ fn relieve(t: &mut [u8], e: Event, i: usize)
     ensures { λ _. ⌜ now (t .exit) ≡ cond (overdue (e .clock) (circuitAt (now (t .entry)) i)) (putCircuit (now (t .entry)) i (made e Act.Cancel (circuitAt (now (t .entry)) i))) (now (t .entry)) ⌝ }
 {
     if table::circuit_at(t, i).overdue(e.clock) {
-        act(t, e, Act::Cancel, i);
+        renew(t, e, Act::Cancel, i);
     }
 }
 
@@ -45,7 +59,7 @@ fn sweep(t: &mut [u8], e: Event)
 
 // A refusal changes nothing, an act its circuit alone, a clock event removes what is overdue.
 pub fn effect(t: &mut [u8], e: Event, o: Outcome)
-    requires { ⌜ Within (length (now t) / 32) o ⌝ }
+    requires { ⌜ Ready (now t) o ⌝ }
     ensures { λ _. ⌜ now (t .exit) ≡ run.effect records (now (t .entry)) e o ⌝ }
 {
     match o {

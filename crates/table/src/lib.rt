@@ -6,9 +6,11 @@ use rules::part::Part;
 ghost use mathlib.Core.Path.{_≡_};
 ghost use Prim.Native.Nat.{_+_, _*_, _/_, _<_, _≤_};
 ghost use lib.ListN.{length};
-ghost use Rattle.octets.specs.Span.{span, zeros};
+ghost use mathlib.Core.List.{_++_};
+ghost use Rattle.octets.specs.Number.{octets};
+ghost use Rattle.octets.specs.Span.{span, put, zeros};
 ghost use Rattle.rules.specs.Valid.{partNo};
-ghost use Rattle.rules.specs.Records.{partAt, circuitAt, circuitOctets, putCircuit, flagsAt, blankPart, blankAt, tableLength};
+ghost use Rattle.rules.specs.Records.{partAt, circuitAt, partOctets, putCircuit, flagsAt, blankPart, blankAt, tableLength};
 
 // A table is 1 to 256 records of 32 octets.
 pub fn right_length(n: usize) -> bool
@@ -72,53 +74,48 @@ pub fn circuit_at(t: &[u8], i: usize) -> Circuit
     }
 }
 
-// A circuit as its record.
-fn record(c: Circuit) -> [u8; 32]
-    ensures { λ r. ⌜ r ≡ circuitOctets c ⌝ }
+// A part as its octets.
+fn part_octets(p: Part) -> [u8; 12]
+    ensures { λ r. ⌜ r ≡ partOctets p ⌝ }
 {
-    let h = c.holder;
-    let r = c.reservation;
-    let d = h.mark.domain;
-    let e = r.mark.domain;
-    let p = h.reference;
-    let q = r.reference;
-    let s = octets::split_four(c.clock);
-    let a = h.flag();
-    let b = r.flag();
+    let d = p.mark.domain;
+    let r = p.reference;
+    let flag = p.flag();
     [
-        a,
-        h.mark.level.0,
+        flag,
+        p.mark.level.0,
         d[0],
         d[1],
         d[2],
         d[3],
         d[4],
-        p[0],
-        p[1],
-        p[2],
-        p[3],
-        p[4],
-        b,
-        r.mark.level.0,
-        e[0],
-        e[1],
-        e[2],
-        e[3],
-        e[4],
-        q[0],
-        q[1],
-        q[2],
-        q[3],
-        q[4],
-        s[0],
-        s[1],
-        s[2],
-        s[3],
-        0,
-        0,
-        0,
-        0,
+        r[0],
+        r[1],
+        r[2],
+        r[3],
+        r[4],
     ]
+}
+
+// The holder's part of circuit i, written.
+pub fn store_holder(t: &mut [u8], i: usize, p: Part)
+    requires { ⌜ i < length (now t) / 32 ⌝ }
+    ensures { λ _. ⌜ now (t .exit) ≡ put (now (t .entry)) (32 * i) (partOctets p) ⌝ }
+{
+    let v = part_octets(p);
+    octets::write(t, 32 * i, &v);
+}
+
+// The reservation's part of circuit i, written with its clock.
+pub fn store_reservation(t: &mut [u8], i: usize, p: Part, clock: u32)
+    requires { ⌜ i < length (now t) / 32 ⌝ }
+    ensures { λ _. ⌜ now (t .exit) ≡ put (now (t .entry)) (32 * i + 12) (partOctets p ++ octets 4 clock) ⌝ }
+{
+    let o = 32 * i + 12;
+    let v = part_octets(p);
+    let s = octets::split_four(clock);
+    octets::write(t, o, &v);
+    octets::write(t, o + 12, &s);
 }
 
 // Circuit i, written whole.
@@ -126,8 +123,10 @@ pub fn store(t: &mut [u8], i: usize, c: Circuit)
     requires { ⌜ i < length (now t) / 32 ⌝ }
     ensures { λ _. ⌜ now (t .exit) ≡ putCircuit (now (t .entry)) i c ⌝ }
 {
-    let v = record(c);
-    octets::write(t, 32 * i, &v);
+    let z = [0u8; 4];
+    store_holder(t, i, c.holder);
+    store_reservation(t, i, c.reservation, c.clock);
+    octets::write(t, 32 * i + 28, &z);
 }
 
 // Each flag of record i is 0 or 1.

@@ -1,13 +1,12 @@
 -- A malformed event first, then a table that is not valid.
-use Prim.Native.Nat.{_/_}
-use mathlib.Core.Path.{subst, sym}
-use lib.ListN.{length}
+use mathlib.Core.Path.{subst, sym, _∙_}
 use denote.Ref.{now}
+use borrow.Author.Tests.{not-false}
 use Rattle.rules.specs.Run.{decide}
-use Rattle.rules.specs.Records.{records, circuitAt}
+use Rattle.rules.specs.Records.{records}
 use Rattle.octets.proofs.Tests.{ways}
-use Rattle.decision.specs.Within.{Within}
-use Rattle.decision.proofs.Named.{within}
+use Rattle.decision.specs.Ready.{Ready}
+use Rattle.decision.proofs.Named.{ready}
 use borrow.Author.Needs.{needs}
 use Rattle.decision.proofs.decide.Statement.{statement}
 use Rattle.decision.proofs.decide.Tie as tie
@@ -25,9 +24,9 @@ returns-2 c =
 returns-3 : tie.Need-returns-3
 unfolding decide records
 returns-3 c =
-    let a = c .before .before .before .before .before .args in
-    let n = length (now (a .t)) / 32 in
-    (search ways depth 8, subst (Within n) (sym (c .decision .ensures)) (within n (circuitAt (now (a .t))) (a .e)))
+    let start = c .before .before .before .before .before in
+    let t = now (start .args .t) in
+    (search ways depth 8, subst (Ready t) (sym (c .decision .ensures)) (ready t (sym (start .pre) ∙ not-false _ (c .before .if2 .left)) (start .args .e)))
 
 pub decide-spec : {M : Type 1} → statement M
 decide-spec =

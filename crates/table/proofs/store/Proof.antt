@@ -1,28 +1,40 @@
--- The record of the circuit, written at its place.
-use Prim.Native.Nat.{ℕ, _*_}
+-- The holder's part, the reservation's, and four octets zero.
 use mathlib.Core.Path.{ap, _∙_}
-use mathlib.Core.List.{List}
+use mathlib.Core.List.{List, _++_}
+use Prim.Native.Nat.{ℕ, _+_, _*_}
 use denote.Ref.{now}
-use borrow.Author.Needs.{needs}
+use lib.ListN.{replicate}
+use Rattle.octets.specs.Number.{octets}
 use Rattle.octets.specs.Span.{put}
-use Rattle.rules.specs.Records.{putCircuit}
+use Rattle.octets.proofs.Spans.{put-put}
+use Rattle.rules.specs.Records.{partOctets, putCircuit}
+use borrow.Author.Needs.{needs}
 use Rattle.table.proofs.store.Statement.{statement}
 use Rattle.table.proofs.store.Tie as tie
 
-stored : tie.Need-returns
+returns : tie.Need-returns
 unfolding putCircuit
-stored c =
-    let five = c .before .before .before .before .before in
-    let a = five .before .before .args in
-    c .before .before .write .ensures ∙ ap (λ (v : List ℕ). put (now (a .t)) (32 * a .i) v) (five .record .ensures)
+returns c =
+    let second = c .before .before .before .before .before .before .before in
+    let first = second .before .before .before .before in
+    let a = first .before .before .before .args in
+    let t = now (a .t) in
+    let o = 32 * a .i in
+    let h = partOctets (a .c .holder) in
+    let r = partOctets (a .c .reservation) ++ octets 4 (a .c .clock) in
+    c .before .before .write .ensures
+    ∙ ap (λ (u : List ℕ). put u (o + 28) (replicate 4 0)) (second .store-reservation .ensures ∙ ap (λ (u : List ℕ). put u (o + 12) r) (first .store-holder .ensures) ∙ put-put t o h r)
+    ∙ put-put t o (h ++ r) (replicate 4 0)
 
 pub store-spec : {M : Type 1} → statement M
 store-spec =
     tie.close
     (tie.spec
     (λ c κs. search needs)
+    (λ c κs. search needs)
+    (λ c. search needs)
     (λ c. search needs)
     (λ c. search needs)
     (λ c κs. search needs)
     (λ c. search needs)
-    stored)
+    returns)

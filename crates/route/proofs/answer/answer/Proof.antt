@@ -6,7 +6,7 @@ use denote.Ref.{now}
 use native.Mathlib.Omega.{arith}
 use Rattle.rules.specs.Answer.{nowhere, noLoser, answerOf}
 use Rattle.rules.specs.Records.{circuitAt}
-use Rattle.decision.specs.Within.{Within}
+use Rattle.decision.specs.Ready.{Ready}
 use Rattle.route.proofs.Told.{told}
 use borrow.Author.Needs.{needs}
 use Rattle.route.proofs.answer.answer.Statement.{statement}
@@ -15,13 +15,13 @@ use Rattle.route.proofs.answer.answer.Tie as tie
 cast-acted : tie.Need-cast-acted
 cast-acted c =
     let a = c .before .before .before .before .args in
-    let below = subst (Within (length (now (a .t)) / 32)) (c .before .o2 .given .1) (c .before .before .before .before .pre .1) in
+    let below = subst (Ready (now (a .t))) (c .before .o2 .given .1) (c .before .before .before .before .pre .1) .0 in
     omega arith
 
 circuit-at-requires : tie.Need-circuit-at-requires
 circuit-at-requires c κs =
     let a = c .before .before .before .before .args in
-    subst (Within (length (now (a .t)) / 32)) (c .before .o2 .given .1) (c .before .before .before .before .pre .1)
+    subst (Ready (now (a .t))) (c .before .o2 .given .1) (c .before .before .before .before .pre .1) .0
 
 returns : tie.Need-returns
 unfolding answerOf

@@ -5,7 +5,7 @@ use lib.ListN.{length}
 use denote.Ref.{now}
 use Rattle.rules.specs.Run.{effect}
 use Rattle.rules.specs.Records.{records}
-use Rattle.decision.specs.Within.{Within}
+use Rattle.decision.specs.Ready.{Ready}
 use borrow.Author.Needs.{needs}
 use Rattle.route.proofs.effect.effect.Statement.{statement}
 use Rattle.route.proofs.effect.effect.Tie as tie
@@ -13,7 +13,7 @@ use Rattle.route.proofs.effect.effect.Tie as tie
 act-requires : tie.Need-act-requires
 act-requires c κs =
     let a = c .before .before .before .before .before .args in
-    subst (Within (length (now (a .t)) / 32)) (c .before .before .o .given .1) (c .before .before .before .before .before .pre)
+    subst (Ready (now (a .t))) (c .before .before .o .given .1) (c .before .before .before .before .before .pre)
 
 returns : tie.Need-returns
 unfolding effect
