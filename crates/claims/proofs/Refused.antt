@@ -3,48 +3,67 @@ use Prim.Native.Nat.{ℕ, _/_, _≤_}
 use mathlib.Core.Path.{_≡_, refl, sym, ap, _∙_}
 use mathlib.Core.Logic.{_≢_}
 use mathlib.Core.Bool.{Bool, true, false, cond, _||_}
-use mathlib.Core.List.{List}
+use mathlib.Core.List.{List, _∷_}
 use native.Mathlib.Omega.{arith}
-use lib.ListN.{length}
+use lib.ListN.{length, replicate}
 use Rattle.octets.proofs.Tests.{by-so}
+use Rattle.rules.specs.declared.circuit.Circuit.{Circuit}
 use Rattle.rules.specs.declared.event.Event.{Event}
 use Rattle.rules.specs.declared.outcome.Act.the-variants.{Seize, Reserve, Release, Cancel}
+use Rattle.rules.specs.declared.outcome.Refusal.{Refusal}
 use Rattle.rules.specs.declared.outcome.Outcome.{Outcome}
 use Rattle.rules.specs.declared.outcome.Outcome.the-variants.{Refuse, Do, Clock}
-use Rattle.rules.specs.Numbers.{lengthWrong}
+use Rattle.rules.specs.Numbers.{lengthWrong, causeOf}
 use Rattle.rules.specs.Answer.{anothers, answerOf}
 use Rattle.rules.specs.Run.{decide, effect, after, answered, answer}
-use Rattle.rules.specs.Records.{circuitAt, eventAt, records}
+use Rattle.rules.specs.Records.{circuitAt, eventAt, answerOctets, records}
 use Rattle.route.specs.Entries.{eventLengths, eventNumber, eventTable, eventAnswer, listLengths, listNumber}
 use Rattle.route.proofs.Whole.{no-event, no-list}
 use Rattle.claims.specs.History.{answerNumber, answerPlace}
-use Rattle.claims.specs.OneByOne.{ReturnsNumber, RefusalKeepsTable, RefusalKeepsHistory, RefusedList}
+use Rattle.claims.specs.OneByOne.{ReturnsNumber, RefusalKeepsTable, RefusalAnswers, RefusalKeepsHistory, RefusedList}
 use Rattle.claims.proofs.Heard.{told-refused}
 use Rattle.claims.proofs.Octets.{answer-number}
 
 -- ---- one event
--- an outcome that is answered by 20 or more is a refusal
-refused-effect : (t : List ℕ) (e : Event) (o : Outcome) → 20 ≤ answerOf (circuitAt t) (length t / 32) e o .number → effect records t e o ≡ t
-unfolding answerOf effect
-refused-effect t e (Refuse r) h = refl
-refused-effect t e (Do Seize i) h =
-    absurd (low (circuitAt t i .holder .present || anothers (e .reference) (circuitAt t i .reservation) .present) h)
+-- an outcome that is answered by 20 or more is a refusal, so what holds of each refusal holds of it
+by-refusal : (x : ℕ → Circuit) (n : ℕ) (e : Event) (P : Outcome → Type 0) → ((r : Refusal) → P (Refuse r)) → (o : Outcome) → 20 ≤ answerOf x n e o .number → P o
+unfolding answerOf
+by-refusal x n e P g (Refuse r) h = g r
+by-refusal x n e P g (Do Seize i) h =
+    absurd (low (x i .holder .present || anothers (e .reference) (x i .reservation) .present) h)
   where
     low : (b : Bool) → 20 ≤ cond b 2 1 → ⊥
     low true h = omega arith
     low false h = omega arith
-refused-effect t e (Do Reserve i) h = absurd (low (circuitAt t i .reservation .present) h)
+by-refusal x n e P g (Do Reserve i) h = absurd (low (x i .reservation .present) h)
   where
     low : (b : Bool) → 20 ≤ cond b 4 3 → ⊥
     low true h = omega arith
     low false h = omega arith
-refused-effect t e (Do Release i) h = absurd (omega arith)
-refused-effect t e (Do Cancel i) h = absurd (omega arith)
-refused-effect t e Clock h = absurd (omega arith)
+by-refusal x n e P g (Do Release i) h = absurd (omega arith)
+by-refusal x n e P g (Do Cancel i) h = absurd (omega arith)
+by-refusal x n e P g Clock h = absurd (omega arith)
+
+refused-effect : (t : List ℕ) (e : Event) (o : Outcome) → 20 ≤ answerOf (circuitAt t) (length t / 32) e o .number → effect records t e o ≡ t
+unfolding effect
+refused-effect t e = by-refusal (circuitAt t) (length t / 32) e (λ o. effect records t e o ≡ t) (λ r. refl)
+
+abbrev refusalOctets : ℕ → List ℕ
+refusalOctets k = k ∷ causeOf k ∷ 255 ∷ 255 ∷ replicate 12 0
+
+refused-octets : (t : List ℕ) (e : Event) (o : Outcome) → 20 ≤ answerOf (circuitAt t) (length t / 32) e o .number → answerOctets (answerOf (circuitAt t) (length t / 32) e o) ≡ refusalOctets (answerOf (circuitAt t) (length t / 32) e o .number)
+unfolding answerOf
+refused-octets t e =
+    let a = answerOf (circuitAt t) (length t / 32) e in
+    by-refusal (circuitAt t) (length t / 32) e (λ o. answerOctets (a o) ≡ refusalOctets (a o .number)) (λ r. refl)
 
 refused-table : (t e : List ℕ) → 20 ≤ answered records t e .number → after records t e ≡ t
 unfolding answered after records
 refused-table t e = refused-effect t (eventAt e) (decide records t (eventAt e))
+
+refused-answer : (t e : List ℕ) → 20 ≤ answered records t e .number → answer records t e ≡ refusalOctets (answered records t e .number)
+unfolding answered answer records
+refused-answer t e = refused-octets t (eventAt e) (decide records t (eventAt e))
 
 -- what its three results are, by its lengths
 module _ (t e place : List ℕ) where
@@ -75,6 +94,11 @@ pub refusal-keeps-table : RefusalKeepsTable
 refusal-keeps-table t e place h =
     by-so (eventLengths t e place)
     (λ q. table-then t e place q ∙ refused-table t e (omega (arith, number-then t e place q))) (λ q. sym (no-event t e place q .1 .0))
+
+pub refusal-answers : RefusalAnswers
+refusal-answers t e place h =
+    let q = lengths-right t e place (λ z. omega arith) in
+    answer-then t e place q ∙ refused-answer t e (omega (arith, number-then t e place q)) ∙ ap refusalOctets (sym (number-then t e place q))
 
 pub refusal-keeps-history : RefusalKeepsHistory
 refusal-keeps-history p c y h = told-refused (eventAt (p .event)) (answerPlace (p .answer)) c y (answerNumber (p .answer)) (omega arith)

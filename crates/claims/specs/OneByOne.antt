@@ -1,10 +1,11 @@
 -- What holds of every table, one that is not valid too: a list is its events one by one, validity is kept, and a refusal changes nothing.
-use Prim.Native.Nat.{ℕ, _≤_}
+use Prim.Native.Nat.{ℕ, _≤_, _<_}
 use mathlib.Core.Path.{_≡_}
 use mathlib.Core.Logic.{_≢_}
 use mathlib.Core.List.{List, [], _∷_}
 use lib.ListN.{length, replicate}
 use Rattle.rules.specs.declared.circuit.Circuit.{Circuit}
+use Rattle.rules.specs.Numbers.{causeOf}
 use Rattle.rules.specs.Records.{checkNumber}
 use Rattle.route.specs.Entries.{eventNumber, eventTable, eventAnswer, listNumber, listTable, listAnswers}
 use Rattle.claims.specs.History.{Turn, answerNumber, heard}
@@ -45,6 +46,12 @@ AlwaysValid = (n : ℕ) → 1 ≤ n → n ≤ 256 → (lists : List EventList) �
 -- "a refusal changes nothing": the table stays, octet for octet
 abbrev pub RefusalKeepsTable : Type 0
 RefusalKeepsTable = (t e place : List ℕ) → 20 ≤ eventNumber t e place → eventTable t e place ≡ t
+
+-- and the answer is the number, the cause, 65535 and zeros
+abbrev pub RefusalAnswers : Type 0
+RefusalAnswers =
+    (t e place : List ℕ) → 20 < eventNumber t e place
+    → eventAnswer t e place ≡ eventNumber t e place ∷ causeOf (eventNumber t e place) ∷ 255 ∷ 255 ∷ replicate 12 0
 
 -- and what the history shows stays
 abbrev pub RefusalKeepsHistory : Type 0
