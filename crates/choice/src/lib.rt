@@ -3,9 +3,11 @@ use rules::circuit::Circuit;
 use rules::mark::Mark;
 use rules::search::Found;
 ghost use mathlib.Core.Path.{_≡_};
-ghost use Prim.Native.Nat.{_/_};
+ghost use Prim.Native.Nat.{_+_, _*_, _/_, _<_};
 ghost use lib.ListN.{length};
-ghost use Rattle.rules.specs.Circuit.{rank};
+ghost use Rattle.rules.specs.Search.{firstTo};
+ghost use Rattle.rules.specs.Circuit.{isOf, rank};
+ghost use Rattle.rules.specs.Valid.{partNo};
 ghost use Rattle.rules.specs.Records.{circuitAt};
 ghost use Rattle.rules.specs.Choice.{choice, heldBy, reservedBy};
 ghost use Rattle.choice.specs.Best.{improved, foundIn};
@@ -64,15 +66,15 @@ pub fn choose(t: &[u8], by: Mark) -> Found
     best.found()
 }
 
-// The circuit that the call with this reference holds.
-pub fn held_by(t: &[u8], reference: [u8; 5]) -> Found
-    ensures { λ r. ⌜ r ≡ heldBy (circuitAt (now (t .entry))) (length (now (t .entry)) / 32) reference ⌝ }
+// The circuit on which the call with this reference stands: on side 0 the holders, on side 1 the reservations.
+fn standing(t: &[u8], reference: [u8; 5], side: usize) -> Found
+    requires { ⌜ side < 2 ⌝ }
+    ensures { λ r. ⌜ r ≡ firstTo (λ i. isOf reference (partNo (circuitAt (now (t .entry))) (2 * i + side))) (length (now (t .entry)) / 32) ⌝ }
 {
     let n = table::count(t);
     let mut i = 0;
     while i < n {
-        let holder = table::circuit_at(t, i).holder;
-        if holder.is_of(reference) {
+        if table::part_no(t, 2 * i + side).is_of(reference) {
             return Found::At(i);
         }
         i += 1;
@@ -80,18 +82,16 @@ pub fn held_by(t: &[u8], reference: [u8; 5]) -> Found
     Found::Nothing
 }
 
+// The circuit that the call with this reference holds.
+pub fn held_by(t: &[u8], reference: [u8; 5]) -> Found
+    ensures { λ r. ⌜ r ≡ heldBy (circuitAt (now (t .entry))) (length (now (t .entry)) / 32) reference ⌝ }
+{
+    standing(t, reference, 0)
+}
+
 // The circuit that it has reserved.
 pub fn reserved_by(t: &[u8], reference: [u8; 5]) -> Found
     ensures { λ r. ⌜ r ≡ reservedBy (circuitAt (now (t .entry))) (length (now (t .entry)) / 32) reference ⌝ }
 {
-    let n = table::count(t);
-    let mut i = 0;
-    while i < n {
-        let reservation = table::circuit_at(t, i).reservation;
-        if reservation.is_of(reference) {
-            return Found::At(i);
-        }
-        i += 1;
-    }
-    Found::Nothing
+    standing(t, reference, 1)
 }

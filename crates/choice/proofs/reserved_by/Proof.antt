@@ -1,63 +1,22 @@
--- The loop returns at the first circuit whose reservation is the call's.
-use Prim.Native.Nat.{ℕ, _-_}
-use mathlib.Core.Bool.{Bool}
-use mathlib.Core.List.{List}
+-- The side of the reservations.
+use Prim.Native.Nat.{_/_}
+use mathlib.Core.Path.{_∙_}
+use lib.ListN.{length}
 use denote.Ref.{now}
-use borrow.Author.Count.{below-none}
-use borrow.Author.Needs.{needs}
-use Rattle.rules.specs.declared.circuit.Circuit.{Circuit}
-use Rattle.rules.specs.Circuit.{isOf}
 use Rattle.rules.specs.Records.{circuitAt}
-use Rattle.rules.specs.Choice.{reservedBy}
-use Rattle.choice.proofs.Walk.{Passed, went-on, returned, ended}
+use Rattle.choice.proofs.Sides.{reservations}
+use borrow.Author.Needs.{needs}
 use Rattle.choice.proofs.reserved_by.Statement.{statement}
 use Rattle.choice.proofs.reserved_by.Tie as tie
 
-abbrev test : List ℕ → Circuit → Bool
-test reference x = isOf reference (x .reservation)
-
-abbrev Inv-loop : tie.InvT-loop
-Inv-loop t reference n i₀ i = Passed (test reference) (circuitAt t) i
-
-abbrev μ-loop : tie.MeasureT-loop
-μ-loop t reference n i₀ i = n - i
-
-returns : tie.Need-returns Inv-loop μ-loop
-unfolding reservedBy
+returns : tie.Need-returns
 returns c =
-    let read = c .before .before .before in
-    let at = read .before .before in
-    let a = at .before .before .before .args in
-    returned (test (a .reference)) (circuitAt (now (a .t))) (at .loop .i) (at .loop .inv)
-    (at .before .count .ensures) (read .before .loop-test .taken) (read .circuit-at .ensures) (c .before .is-of .ensures) (c .if1 .taken)
-
-loop-again : tie.Need-loop-again Inv-loop μ-loop
-loop-again c =
-    let read = c .before .before .before in
-    let at = read .before .before in
-    let a = at .before .before .before .args in
-    went-on (test (a .reference)) (circuitAt (now (a .t))) (at .loop .i) (at .loop .inv)
-    (read .circuit-at .ensures) (c .before .is-of .ensures) (c .if1 .left)
-
-returns-2 : tie.Need-returns-2 Inv-loop μ-loop
-unfolding reservedBy
-returns-2 c =
-    let at = c .before in
-    let a = at .before .before .before .args in
-    ended (test (a .reference)) (circuitAt (now (a .t))) (at .loop .i) (at .loop .inv) (at .before .count .ensures) (c .loop-test .left)
+    let a = c .before .before .args in
+    c .standing .ensures ∙ reservations (circuitAt (now (a .t))) (length (now (a .t)) / 32) (a .reference)
 
 pub reserved-by-spec : {M : Type 1} → statement M
 reserved-by-spec =
     tie.close
     (tie.spec
-    Inv-loop
-    μ-loop
     (λ c κs. search needs)
-    (λ c. below-none _)
-    (λ c κs. search needs)
-    (λ c κs. search needs)
-    returns
-    (λ c. search needs)
-    (λ c. search needs)
-    loop-again
-    returns-2)
+    returns)
