@@ -6,6 +6,7 @@ ghost use lib.ListN.{length};
 ghost use Rattle.fields.specs.Precedence.{refused, readable, readPrecedence, digitsFit, writable, writeNumber, writeBuffer};
 
 // digits: the network identity. service: the service domain, 24 bits.
+#[repr(C)]
 pub struct Precedence {
     pub level: u8,
     pub lfb: u8,
@@ -14,6 +15,7 @@ pub struct Precedence {
 }
 
 // number: 0, 20 or 22. At 20 and 22 all values are zero.
+#[repr(C)]
 pub struct Reading {
     pub number: u8,
     pub value: Precedence,

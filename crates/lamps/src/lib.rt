@@ -6,6 +6,7 @@ ghost use Prim.Native.Nat.{_/_, _-_, _≤_, _<_, min};
 ghost use lib.ListN.{length};
 ghost use Rattle.lamps.specs.Lamps.{litAt, word, numberIn, lowestIn, litMap, darkMap, lampMap};
 
+#[repr(C)]
 pub struct Lamps {
     pub number: u8,
     pub lit: u16,

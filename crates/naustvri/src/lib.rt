@@ -5,101 +5,41 @@ ghost use Rattle.fields.specs.Precedence as precedence;
 ghost use Rattle.fields.specs.Reference as reference;
 ghost use Rattle.lamps.specs.Lamps.{lampMap};
 ghost use Rattle.route.specs.Entries.{eventNumber, eventTable, eventAnswer, listNumber, listTable, listAnswers};
-ghost use Rattle.naustvri.specs.Handed.{precedenceOf, precedenceHanded, referenceOf, referenceHanded, lampsHanded};
 
-#[repr(C)]
-pub struct Precedence {
-    pub level: u8,
-    pub lfb: u8,
-    pub digits: [u8; 4],
-    pub service: u32,
-}
-
-#[repr(C)]
-pub struct PrecedenceReading {
-    pub number: u8,
-    pub value: Precedence,
-}
-
-#[repr(C)]
-pub struct Reference {
-    pub identity: u32,
-    pub point: u16,
-}
-
-#[repr(C)]
-pub struct ReferenceReading {
-    pub number: u8,
-    pub value: Reference,
-}
-
-#[repr(C)]
-pub struct Lamps {
-    pub number: u8,
-    pub lit: u16,
-    pub words: [u64; 4],
+#[no_mangle]
+pub extern "C" fn naustvri_read_precedence(octets: &[u8]) -> fields::precedence::Reading
+    ensures { λ r. ⌜ r ≡ precedence.readPrecedence (now (octets .entry)) ⌝ }
+{
+    fields::precedence::read(octets)
 }
 
 #[no_mangle]
-pub extern "C" fn naustvri_read_precedence(octets: &[u8]) -> PrecedenceReading
-    ensures { λ r. ⌜ r ≡ precedenceHanded (precedence.readPrecedence (now (octets .entry))) ⌝ }
+pub extern "C" fn naustvri_write_precedence(
+    buffer: &mut [u8],
+    value: fields::precedence::Precedence,
+) -> u8
+    ensures { λ r. ⌜ r ≡ precedence.writeNumber (now (buffer .entry)) value ⌝ }
+    ensures { λ _. ⌜ now (buffer .exit) ≡ precedence.writeBuffer (now (buffer .entry)) value ⌝ }
 {
-    let reading = fields::precedence::read(octets);
-    let digits = reading.value.digits;
-    PrecedenceReading {
-        number: reading.number,
-        value: Precedence {
-            level: reading.value.level,
-            lfb: reading.value.lfb,
-            digits,
-            service: reading.value.service,
-        },
-    }
+    fields::precedence::write(buffer, value)
 }
 
 #[no_mangle]
-pub extern "C" fn naustvri_write_precedence(buffer: &mut [u8], value: Precedence) -> u8
-    ensures { λ r. ⌜ r ≡ precedence.writeNumber (now (buffer .entry)) (precedenceOf value) ⌝ }
-    ensures { λ _. ⌜ now (buffer .exit) ≡ precedence.writeBuffer (now (buffer .entry)) (precedenceOf value) ⌝ }
+pub extern "C" fn naustvri_read_reference(octets: &[u8]) -> fields::reference::Reading
+    ensures { λ r. ⌜ r ≡ reference.readReference (now (octets .entry)) ⌝ }
 {
-    let digits = value.digits;
-    fields::precedence::write(
-        buffer,
-        fields::precedence::Precedence {
-            level: value.level,
-            lfb: value.lfb,
-            digits,
-            service: value.service,
-        },
-    )
+    fields::reference::read(octets)
 }
 
 #[no_mangle]
-pub extern "C" fn naustvri_read_reference(octets: &[u8]) -> ReferenceReading
-    ensures { λ r. ⌜ r ≡ referenceHanded (reference.readReference (now (octets .entry))) ⌝ }
+pub extern "C" fn naustvri_write_reference(
+    buffer: &mut [u8],
+    value: fields::reference::Reference,
+) -> u8
+    ensures { λ r. ⌜ r ≡ reference.writeNumber (now (buffer .entry)) value ⌝ }
+    ensures { λ _. ⌜ now (buffer .exit) ≡ reference.writeBuffer (now (buffer .entry)) value ⌝ }
 {
-    let reading = fields::reference::read(octets);
-    ReferenceReading {
-        number: reading.number,
-        value: Reference {
-            identity: reading.value.identity,
-            point: reading.value.point,
-        },
-    }
-}
-
-#[no_mangle]
-pub extern "C" fn naustvri_write_reference(buffer: &mut [u8], value: Reference) -> u8
-    ensures { λ r. ⌜ r ≡ reference.writeNumber (now (buffer .entry)) (referenceOf value) ⌝ }
-    ensures { λ _. ⌜ now (buffer .exit) ≡ reference.writeBuffer (now (buffer .entry)) (referenceOf value) ⌝ }
-{
-    fields::reference::write(
-        buffer,
-        fields::reference::Reference {
-            identity: value.identity,
-            point: value.point,
-        },
-    )
+    fields::reference::write(buffer, value)
 }
 
 #[no_mangle]
@@ -128,14 +68,8 @@ pub extern "C" fn naustvri_list(table: &mut [u8], events: &[u8], answers: &mut [
 }
 
 #[no_mangle]
-pub extern "C" fn naustvri_lamps(table: &[u8]) -> Lamps
-    ensures { λ r. ⌜ r ≡ lampsHanded (lampMap (now (table .entry))) ⌝ }
+pub extern "C" fn naustvri_lamps(table: &[u8]) -> lamps::Lamps
+    ensures { λ r. ⌜ r ≡ lampMap (now (table .entry)) ⌝ }
 {
-    let map = lamps::map(table);
-    let words = map.words;
-    Lamps {
-        number: map.number,
-        lit: map.lit,
-        words,
-    }
+    lamps::map(table)
 }
