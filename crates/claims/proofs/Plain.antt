@@ -51,7 +51,7 @@ module _ (m : Mark) (y : Circuit) where
   so-lower : Lower m y → takeable m y ≡ true
   unfolding takeable
   so-lower h =
-      and-both (not (free y)) (outranks m (standing y)) (ap not (not-so (free y) (λ f. h .taken (free-so y f))))
+      and-both (not (free y)) (outranks m (standing y)) (ap not (not-so (free y) (λ f. h .occupied (free-so y f))))
       (and-both domains levels (ap (same (m .domain)) (h .domain) ∙ same-refl (m .domain)) (lt-ltb (m .level .0) (standing y .level .0) (h .level)))
 
   pub lower-so : takeable m y ≡ true → Lower m y
@@ -59,7 +59,7 @@ module _ (m : Mark) (y : Circuit) where
   lower-so h =
       let o = and-right (not (free y)) (outranks m (standing y)) h in
       record {
-        taken = not-free y (not-true (free y) (and-left (not (free y)) (outranks m (standing y)) h));
+        occupied = not-free y (not-true (free y) (and-left (not (free y)) (outranks m (standing y)) h));
         domain = sym (same-true (m .domain) (standing y .domain) (and-left domains levels o));
         level = ltb-true (m .level .0) (standing y .level .0) (and-right domains levels o);
       }

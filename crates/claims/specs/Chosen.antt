@@ -13,7 +13,7 @@ Free y = (y .holder .present ≡ false) × (y .reservation .present ≡ false)
 -- circuit y stands under a strictly lower precedence than mark m in the same domain: its standing mark is the reservation's if there is
 -- one, else the holder's, and the lower precedence has the greater level number
 pub record Lower (m : Mark) (y : Circuit) : Type 0 where
-  pub taken : Free y → ⊥
+  pub occupied : Free y → ⊥
   pub domain : standing y .domain ≡ m .domain
   pub level : m .level .0 < standing y .level .0
 
