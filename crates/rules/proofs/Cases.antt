@@ -1,4 +1,4 @@
--- Both sides of each rule that P1 to P12 leave aside: every number that an event can give but those of P1 to P12 and 28, the order of refusals, the ties and the losers.
+-- Both sides of each rule that P1 to P12 leave aside, with them every number that an event can give but 28: the order of refusals, the ties and the losers.
 use Prim.Native.Nat.{ℕ}
 use mathlib.Core.Path.{_≡_, refl}
 use mathlib.Core.Bool.{true}
