@@ -5,6 +5,7 @@ pub mod Ran
 pub mod Cut
 pub mod Start
 pub mod Plain
+pub mod Lowest
 pub mod Served
 pub mod Demanded
 pub mod Instanced

@@ -12,11 +12,11 @@ use lib.ListN.{length, replicate}
 use Rattle.rules.specs.declared.part.Part.{Part}
 use Rattle.rules.specs.declared.circuit.Circuit.{Circuit}
 use Rattle.rules.specs.declared.event.Event.{Event}
-use Rattle.rules.specs.Circuit.{isRoutine, nobody, party}
+use Rattle.rules.specs.Circuit.{isRoutine, nobody}
 use Rattle.rules.specs.Event.{wellFormed}
 use Rattle.rules.specs.Records.{circuitAt, eventAt}
 use Rattle.route.specs.Entries.{listAnswers}
-use Rattle.claims.specs.History.{Turn, asked, answerNumber, history}
+use Rattle.claims.specs.History.{Turn, asked, answerNumber, caller, history}
 use Rattle.claims.specs.Lists.{EventList, emptyTable, tableAfter, past}
 use Rattle.claims.specs.Chosen.{NoneFree, NoneLower, FirstFree, Lowest}
 
@@ -44,7 +44,7 @@ ForWant a = (answerNumber a ≡ 30) ⊎ (answerNumber a ≡ 31)
 abbrev pub wantOctets : Bool → List ℕ
 wantOctets ofRoutine = cond ofRoutine (30 ∷ 34 ∷ []) (31 ∷ 46 ∷ []) ++ 255 ∷ 255 ∷ replicate 12 0
 
--- a loser in an answer: 1 and its reference where a party stands, zeros where none does
+-- a loser in an answer: 1 and its reference where a call stands, zeros where none does
 abbrev pub loserOctets : Part → List ℕ
 loserOctets p = cond (p .present) (1 ∷ p .reference) (replicate 6 0)
 
@@ -61,7 +61,7 @@ pub record Gets (n : ℕ) (x y : ℕ → Circuit) (e : Event) (a : List ℕ) : T
   -- "the losers named are exactly those the history shows there"
   pub answer : a ≡ seizedOctets circuit (x circuit)
   -- the circuit then holds the call with no reservation, and the others are as they were
-  pub holds : y circuit ≡ record { holder = party e; reservation = nobody; clock = 0 }
+  pub holds : y circuit ≡ record { holder = caller e; reservation = nobody; clock = 0 }
   pub others : (c : ℕ) → c < n → c ≢ circuit → y c ≡ x c
 
 -- what demand 3 says of the answer a to event e

@@ -1,14 +1,14 @@
 -- The history: who holds and who has reserved each circuit, under which mark and since which clock, from the past events and their answers alone. It looks at no table.
-use Prim.Native.Nat.{ℕ}
-use mathlib.Core.Bool.{cond, _||_}
+use Prim.Native.Nat.{ℕ, _+_, _-_, _%_}
+use mathlib.Core.Bool.{Bool, true, cond, _&&_, _||_}
 use mathlib.Core.List.{List, [], _∷_}
 use lib.ListN.{getD}
-use lib.Dec.{eqb}
+use lib.Dec.{eqb, leb}
 use Rattle.octets.specs.Span.{number}
+use Rattle.rules.specs.declared.part.Part.{Part}
 use Rattle.rules.specs.declared.circuit.Circuit.{Circuit}
 use Rattle.rules.specs.declared.event.Event.{Event}
-use Rattle.rules.specs.declared.outcome.Act.the-variants.{Seize, Reserve, Release, Cancel}
-use Rattle.rules.specs.Circuit.{nobody, overdue, made}
+use Rattle.rules.specs.Circuit.{nobody}
 use Rattle.rules.specs.Records.{eventAt}
 
 -- an event and the answer that was given to it, both in their octets
@@ -25,18 +25,30 @@ answerNumber a = getD a 0 0
 abbrev pub answerPlace : List ℕ → ℕ  -- its octets 2-3: the circuit that it names
 answerPlace a = number a 2 2
 
--- what event e, answered by number k, makes of the circuit y that the answer names: it is seized, reserved, released, cancelled,
--- or as it was
+abbrev pub caller : Event → Part  -- the event's call as it stands in a part: present, under the event's mark, by its reference
+caller e = record { present = true; mark = e .mark; reference = e .reference }
+
+-- what event e, answered by number k, makes of the circuit y that the answer names
 unfoldable pub named : Event → ℕ → Circuit → Circuit
 named e k y =
-    cond (eqb k 1 || eqb k 2) (made e Seize y)
-    (cond (eqb k 3 || eqb k 4) (made e Reserve y)
-    (cond (eqb k 5) (made e Release y) (cond (eqb k 6) (made e Cancel y) y)))
+    -- 1 / 2 seized: the call holds it, with no reservation
+    cond (eqb k 1 || eqb k 2) (record { holder = caller e; reservation = nobody; clock = 0 })
+    -- 3 / 4 reserved: the call has reserved it since the event's clock, and a holder stays
+    (cond (eqb k 3 || eqb k 4) (record { holder = y .holder; reservation = caller e; clock = e .clock })
+    -- 5 released: nobody holds it, and a reservation stays
+    (cond (eqb k 5) (record { holder = nobody; reservation = y .reservation; clock = y .clock })
+    -- 6 cancelled: nobody has reserved it, and a holder stays
+    (cond (eqb k 6) (record { holder = y .holder; reservation = nobody; clock = 0 }) y)))
 
--- what circuit c, which was y, is after event e was answered by number k and named circuit i: a clock event that was taken removes
--- what is overdue, and any other answer speaks of the circuit that it names
+-- a reservation that was made 3,000 steps ago or more, modulo 4,294,967,296
+abbrev pub old : ℕ → Circuit → Bool
+old clock y = y .reservation .present && leb 3000 ((clock + 4294967296 - y .clock) % 4294967296)
+
+-- what circuit c, which was y, is after event e was answered by number k and named circuit i: 7, a clock event that was taken, removes
+-- each old reservation, and any other answer speaks of the circuit that it names
 unfoldable pub told : Event → ℕ → ℕ → ℕ → Circuit → Circuit
-told e k i c y = cond (eqb k 7) (cond (overdue (e .clock) y) (made e Cancel y) y) (cond (eqb i c) (named e k y) y)
+told e k i c y =
+    cond (eqb k 7) (cond (old (e .clock) y) (record { holder = y .holder; reservation = nobody; clock = 0 }) y) (cond (eqb i c) (named e k y) y)
 
 abbrev pub heard : Turn → ℕ → Circuit → Circuit  -- the same, read from the octets
 heard p c y = told (asked p) (answerNumber (p .answer)) (answerPlace (p .answer)) c y
