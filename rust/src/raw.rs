@@ -1,0 +1,28 @@
+// The functions as C has them.
+
+use crate::{Lamps, Precedence, PrecedenceReading, Reference, ReferenceReading};
+
+extern "C" {
+    pub fn naustvri_read_precedence(octets: *const u8, octets_len: usize) -> PrecedenceReading;
+    pub fn naustvri_write_precedence(buffer: *mut u8, buffer_len: usize, value: Precedence) -> u8;
+    pub fn naustvri_read_reference(octets: *const u8, octets_len: usize) -> ReferenceReading;
+    pub fn naustvri_write_reference(buffer: *mut u8, buffer_len: usize, value: Reference) -> u8;
+    pub fn naustvri_check(table: *const u8, table_len: usize) -> u8;
+    pub fn naustvri_event(
+        table: *mut u8,
+        table_len: usize,
+        event: *const u8,
+        event_len: usize,
+        answer: *mut u8,
+        answer_len: usize,
+    ) -> u8;
+    pub fn naustvri_list(
+        table: *mut u8,
+        table_len: usize,
+        events: *const u8,
+        events_len: usize,
+        answers: *mut u8,
+        answers_len: usize,
+    ) -> u8;
+    pub fn naustvri_lamps(table: *const u8, table_len: usize) -> Lamps;
+}

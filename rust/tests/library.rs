@@ -1,0 +1,298 @@
+// The library through the wrapper: document 01's listing, and every function with guard octets around the buffers that it writes.
+
+use naustvri::*;
+
+const GUARD: u8 = 0x5a;
+const MARGIN: usize = 64;
+
+// Lends `call` a copy of the buffer between guard octets, and puts back what the copy then holds.
+fn guarded<T>(buffer: &mut [u8], call: impl FnOnce(&mut [u8]) -> T) -> T {
+    let within = MARGIN..MARGIN + buffer.len();
+    let mut octets = vec![GUARD; buffer.len() + 2 * MARGIN];
+    octets[within.clone()].copy_from_slice(buffer);
+    let result = call(&mut octets[within.clone()]);
+    buffer.copy_from_slice(&octets[within.clone()]);
+    octets[within].fill(GUARD);
+    assert!(octets.iter().all(|&octet| octet == GUARD));
+    result
+}
+
+fn apply(table: &mut [u8], octets: &[u8], answer: &mut [u8]) -> u8 {
+    guarded(table, |table| {
+        guarded(answer, |answer| event(table, octets, answer))
+    })
+}
+
+// Zero domain, LFB allowed.
+fn event_of(kind: u8, level: u8, reference: Reference, clock: u32) -> [u8; EVENT_SIZE] {
+    let mut octets = [0; EVENT_SIZE];
+    let precedence = Precedence {
+        level,
+        ..Precedence::default()
+    };
+    octets[EVENT_KIND] = kind;
+    let at = &mut octets[EVENT_PRECEDENCE..EVENT_PRECEDENCE + PRECEDENCE_SIZE];
+    assert_eq!(
+        guarded(at, |buffer| write_precedence(buffer, precedence)),
+        DONE
+    );
+    let at = &mut octets[EVENT_REFERENCE..EVENT_REFERENCE + REFERENCE_SIZE];
+    assert_eq!(
+        guarded(at, |buffer| write_reference(buffer, reference)),
+        DONE
+    );
+    octets[EVENT_CLOCK..].copy_from_slice(&clock.to_le_bytes());
+    octets
+}
+
+fn call(identity: u32) -> Reference {
+    Reference { identity, point: 1 }
+}
+
+// 01's events; a parameter that has to be zero is that of level 0.
+fn listed_events() -> [[u8; EVENT_SIZE]; 9] {
+    let nobody = Reference::default();
+    [
+        event_of(SET_UP, ROUTINE, call(1), 0),
+        event_of(LOOK_AHEAD, IMMEDIATE, call(2), 100),
+        event_of(SET_UP, PRIORITY, call(3), 0),
+        event_of(SET_UP, PRIORITY, call(4), 0),
+        event_of(RELEASE, 0, call(1), 0),
+        event_of(CLOCK, 0, nobody, 3099),
+        event_of(CLOCK, 0, nobody, 3100),
+        event_of(SET_UP, PRIORITY, call(4), 0),
+        event_of(SET_UP, ROUTINE, call(5), 0),
+    ]
+}
+
+const LISTING: [&str; 9] = [
+    "1 1 0 0 - -",
+    "2 3 0 1 - -",
+    "3 2 0 0 1/1 -",
+    "4 31 46 - - -",
+    "5 27 0 - - -",
+    "6 7 0 0 - -",
+    "7 7 0 1 - -",
+    "8 1 0 1 - -",
+    "9 30 34 - - -",
+];
+
+// An answer as a line of 01's listing.
+fn line(count: usize, answer: &[u8]) -> String {
+    let place = match u16::from_le_bytes([answer[ANSWER_PLACE], answer[ANSWER_PLACE + 1]]) {
+        NO_PLACE => String::from("-"),
+        place => place.to_string(),
+    };
+    let lost = |flag: usize, at: usize| {
+        if answer[flag] == 0 {
+            return String::from("-");
+        }
+        let reading = read_reference(&answer[at..at + REFERENCE_SIZE]);
+        assert_eq!(reading.number, DONE);
+        format!("{}/{}", reading.value.identity, reading.value.point)
+    };
+    let lost_call = lost(ANSWER_CALL_LOST, ANSWER_LOST_CALL);
+    let lost_reservation = lost(ANSWER_RESERVATION_LOST, ANSWER_LOST_RESERVATION);
+    let (number, cause) = (answer[ANSWER_NUMBER], answer[ANSWER_CAUSE]);
+    format!("{count} {number} {cause} {place} {lost_call} {lost_reservation}")
+}
+
+#[test]
+fn listing_event_by_event() {
+    let mut table = [0; 2 * CIRCUIT_SIZE];
+    for (i, octets) in listed_events().iter().enumerate() {
+        let mut answer = [0xff; ANSWER_SIZE];
+        let number = apply(&mut table, octets, &mut answer);
+        assert_eq!(number, answer[ANSWER_NUMBER]);
+        assert_eq!(line(i + 1, &answer), LISTING[i]);
+        assert_eq!(check(&table), DONE);
+    }
+}
+
+#[test]
+fn listing_as_a_list() {
+    let mut table = [0; 2 * CIRCUIT_SIZE];
+    let events = listed_events().concat();
+    let mut answers = [0xff; 9 * ANSWER_SIZE];
+    let number = guarded(&mut table, |table| {
+        guarded(&mut answers, |answers| list(table, &events, answers))
+    });
+    assert_eq!(number, DONE);
+    for (i, answer) in answers.chunks(ANSWER_SIZE).enumerate() {
+        assert_eq!(line(i + 1, answer), LISTING[i]);
+    }
+    // The calls that hold the two circuits at the end.
+    for (i, identity) in [3, 4].into_iter().enumerate() {
+        let at = i * CIRCUIT_SIZE + CIRCUIT_HOLDER_REFERENCE;
+        assert_eq!(
+            read_reference(&table[at..at + REFERENCE_SIZE]).value,
+            call(identity)
+        );
+    }
+}
+
+#[test]
+fn wrong_length_writes_nothing() {
+    let octets = event_of(SET_UP, ROUTINE, call(1), 0);
+    for (circuits, event_size, answer_size) in [
+        (0, 16, 16),
+        (257, 16, 16),
+        (1, 15, 16),
+        (1, 16, 17),
+        (1, 0, 0),
+    ] {
+        let mut table = vec![0; circuits * CIRCUIT_SIZE];
+        let mut answer = vec![0xff; answer_size];
+        assert_eq!(
+            apply(&mut table, &octets[..event_size], &mut answer),
+            WRONG_LENGTH
+        );
+        assert!(table.iter().all(|&octet| octet == 0));
+        assert!(answer.iter().all(|&octet| octet == 0xff));
+    }
+    let (mut table, mut answers) = ([0; CIRCUIT_SIZE], [0xff; 2 * ANSWER_SIZE]);
+    assert_eq!(
+        guarded(&mut table, |table| list(table, &octets, &mut answers)),
+        WRONG_LENGTH
+    );
+    assert_eq!(
+        (table, answers),
+        ([0; CIRCUIT_SIZE], [0xff; 2 * ANSWER_SIZE])
+    );
+    assert_eq!(list(&mut table, &[], &mut []), DONE);
+}
+
+#[test]
+fn precedence_there_and_back() {
+    let value = Precedence {
+        level: IMMEDIATE,
+        lfb: LFB_PATH_RESERVED,
+        digits: [0, 4, 7, 1],
+        service: 0x0a_0b0c,
+    };
+    let mut octets = [0xff; PRECEDENCE_SIZE];
+    assert_eq!(
+        guarded(&mut octets, |buffer| write_precedence(buffer, value)),
+        DONE
+    );
+    assert_eq!(octets, [0x22, 0x04, 0x71, 0x0a, 0x0b, 0x0c]);
+    assert_eq!(
+        read_precedence(&octets),
+        PrecedenceReading {
+            number: DONE,
+            value
+        }
+    );
+
+    let refused = |number| PrecedenceReading {
+        number,
+        ..PrecedenceReading::default()
+    };
+    assert_eq!(read_precedence(&octets[1..]), refused(WRONG_LENGTH));
+    assert_eq!(read_precedence(&[0x62, 0, 0, 0, 0, 0]), refused(MALFORMED));
+    let too_large = Precedence {
+        service: 0x100_0000,
+        ..value
+    };
+    assert_eq!(
+        guarded(&mut octets, |buffer| write_precedence(buffer, too_large)),
+        MALFORMED
+    );
+    assert_eq!(
+        guarded(&mut octets[..5], |buffer| write_precedence(
+            buffer, too_large
+        )),
+        WRONG_LENGTH
+    );
+    assert_eq!(read_precedence(&octets).value, value);
+}
+
+#[test]
+fn reference_there_and_back() {
+    let value = Reference {
+        identity: 0x01_0203,
+        point: 0x3fde,
+    };
+    let mut octets = [0xff; REFERENCE_SIZE];
+    assert_eq!(
+        guarded(&mut octets, |buffer| write_reference(buffer, value)),
+        DONE
+    );
+    assert_eq!(octets, [0x03, 0x02, 0x01, 0xde, 0x3f]);
+    assert_eq!(
+        read_reference(&octets),
+        ReferenceReading {
+            number: DONE,
+            value
+        }
+    );
+
+    assert_eq!(
+        read_reference(&[]),
+        ReferenceReading {
+            number: WRONG_LENGTH,
+            ..ReferenceReading::default()
+        }
+    );
+    let too_large = Reference {
+        point: 0x4000,
+        ..value
+    };
+    assert_eq!(
+        guarded(&mut octets, |buffer| write_reference(buffer, too_large)),
+        MALFORMED
+    );
+    assert_eq!(
+        guarded(&mut octets[..4], |buffer| write_reference(
+            buffer, too_large
+        )),
+        WRONG_LENGTH
+    );
+    assert_eq!(read_reference(&octets).value, value);
+}
+
+#[test]
+fn lamps_and_check() {
+    let mut table = [0; CIRCUITS_MOST * CIRCUIT_SIZE];
+    for identity in 1..=3 {
+        let mut answer = [0; ANSWER_SIZE];
+        assert_eq!(
+            apply(
+                &mut table,
+                &event_of(SET_UP, ROUTINE, call(identity), 0),
+                &mut answer
+            ),
+            SEIZED
+        );
+    }
+    assert_eq!(
+        lamps(&table),
+        Lamps {
+            number: DONE,
+            lit: 253,
+            words: [!7, !0, !0, !0]
+        }
+    );
+    assert_eq!(
+        lamps(&table[..130 * CIRCUIT_SIZE]),
+        Lamps {
+            number: DONE,
+            lit: 127,
+            words: [!7, !0, 3, 0]
+        }
+    );
+
+    let refused = |number| Lamps {
+        number,
+        ..Lamps::default()
+    };
+    assert_eq!(
+        (check(&table[1..]), lamps(&table[1..])),
+        (WRONG_LENGTH, refused(WRONG_LENGTH))
+    );
+    table[CIRCUIT_HELD] = 2;
+    assert_eq!(
+        (check(&table), lamps(&table)),
+        (TABLE_NOT_VALID, refused(TABLE_NOT_VALID))
+    );
+}
