@@ -85,7 +85,7 @@ enum naustvri_size {
     NAUSTVRI_ANSWER_SIZE = 16,
     NAUSTVRI_CIRCUITS_MOST = 256,   /* a table has 1 to 256 circuits */
     NAUSTVRI_EVENTS_MOST = 4096,    /* a list has 0 to 4,096 events */
-    NAUSTVRI_RESERVATION_STEPS = 3000 /* a reservation of this age, in steps of 10 ms, goes at a clock event */
+    NAUSTVRI_RESERVATION_STEPS = 3000 /* a reservation of this age or more, in steps of 10 ms, goes at a clock event */
 };
 
 /* A circuit, 32 octets: where each field stands. A part whose flag is 0 is all zero. */
@@ -105,8 +105,8 @@ enum naustvri_circuit_offset {
 /* An event, 16 octets. */
 enum naustvri_event_offset {
     NAUSTVRI_EVENT_KIND = 0,
-    NAUSTVRI_EVENT_PRECEDENCE = 1,  /* zero in a release, a cancel and a clock event */
-    NAUSTVRI_EVENT_REFERENCE = 7,   /* zero in a clock event */
+    NAUSTVRI_EVENT_PRECEDENCE = 1,  /* zero, spare bits too, in a release, a cancel and a clock event */
+    NAUSTVRI_EVENT_REFERENCE = 7,   /* zero, spare bits too, in a clock event */
     NAUSTVRI_EVENT_CLOCK = 12       /* 4 octets, steps of 10 ms: read in a look-ahead and a clock event */
 };
 
@@ -173,13 +173,13 @@ uint8_t naustvri_write_reference(uint8_t *buffer, size_t buffer_len, struct naus
 /* 0 for a valid table, 20 for a length that is not 1 to 256 whole circuits, else 21. */
 uint8_t naustvri_check(const uint8_t *table, size_t table_len);
 
-/* One event applied to a table: the answer's number. At 20 (a length is wrong) no buffer is written; at any other refusal the
- * answer is written and the table is as it was. */
+/* One event of 16 octets applied to a table of 1 to 256 whole circuits, with 16 octets for the answer: the answer's number. At 20
+ * (a length is wrong) no buffer is written; at any other refusal the answer is written and the table is as it was. */
 uint8_t naustvri_event(uint8_t *table, size_t table_len, const uint8_t *event, size_t event_len, uint8_t *answer,
                        size_t answer_len);
 
-/* A list of events applied in order, one answer for each: 0, or 20 where a length is wrong and no buffer is written. It equals
- * its events applied one by one; over a table that is not valid each answer is 22 or 21. */
+/* A list of 0 to 4,096 events applied in order, with as many octets for the answers as the events have: 0, or 20 where a length is
+ * wrong and no buffer is written. It equals its events applied one by one; over a table that is not valid each answer is 22 or 21. */
 uint8_t naustvri_list(uint8_t *table, size_t table_len, const uint8_t *events, size_t events_len, uint8_t *answers,
                       size_t answers_len);
 
