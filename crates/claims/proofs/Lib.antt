@@ -13,6 +13,8 @@ pub mod Reasons
 pub mod Refused
 pub mod Marks
 pub mod Twice
+pub mod Parties
 pub mod Reservations
+pub mod Holders
 pub mod Alone
 pub mod Checked

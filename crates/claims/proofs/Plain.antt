@@ -41,27 +41,35 @@ module _ (y : Circuit) where
   not-free : free y ≡ false → Free y → ⊥
   not-free h f = true≢false (sym (so-free f) ∙ h)
 
-module _ (m : Mark) (y : Circuit) where
+-- ---- two marks
+abbrev pub Above : Mark → Mark → Type 0  -- strictly higher in the same domain
+Above a b = (a .domain ≡ b .domain) × (a .level .0 < b .level .0)
+
+module _ (a b : Mark) where
   abbrev domains : Bool
-  domains = same (m .domain) (standing y .domain)
+  domains = same (a .domain) (b .domain)
 
   abbrev levels : Bool
-  levels = ltb (m .level .0) (standing y .level .0)
+  levels = ltb (a .level .0) (b .level .0)
 
+  pub above-so : outranks a b ≡ true → Above a b
+  above-so h = (same-true (a .domain) (b .domain) (and-left domains levels h), ltb-true (a .level .0) (b .level .0) (and-right domains levels h))
+
+module _ (m : Mark) (y : Circuit) where
   so-lower : Lower m y → takeable m y ≡ true
   unfolding takeable
   so-lower h =
       and-both (not (free y)) (outranks m (standing y)) (ap not (not-so (free y) (λ f. h .occupied (free-so y f))))
-      (and-both domains levels (ap (same (m .domain)) (h .domain) ∙ same-refl (m .domain)) (lt-ltb (m .level .0) (standing y .level .0) (h .level)))
+      (and-both (domains m (standing y)) (levels m (standing y)) (ap (same (m .domain)) (h .domain) ∙ same-refl (m .domain)) (lt-ltb (m .level .0) (standing y .level .0) (h .level)))
 
   pub lower-so : takeable m y ≡ true → Lower m y
   unfolding takeable
   lower-so h =
-      let o = and-right (not (free y)) (outranks m (standing y)) h in
+      let o = above-so m (standing y) (and-right (not (free y)) (outranks m (standing y)) h) in
       record {
         occupied = not-free y (not-true (free y) (and-left (not (free y)) (outranks m (standing y)) h));
-        domain = sym (same-true (m .domain) (standing y .domain) (and-left domains levels o));
-        level = ltb-true (m .level .0) (standing y .level .0) (and-right domains levels o);
+        domain = sym (o .0);
+        level = o .1;
       }
 
   not-lower : takeable m y ≡ false → Lower m y → ⊥

@@ -1,5 +1,5 @@
 -- Why an outcome is decided: by which kind of event, and what stood on the circuit.
-use Prim.Native.Nat.{ℕ}
+use Prim.Native.Nat.{ℕ, _<_}
 use mathlib.Core.Path.{_≡_, refl, sym, ap, _∙_}
 use mathlib.Core.Logic.{⊎-elim, _⊎_, inl, inr}
 use mathlib.Core.Bool.{Bool, true, false, cond, _&&_, _||_, not, true≢false}
@@ -41,19 +41,22 @@ module _ (x : ℕ → Circuit) (n : ℕ) (e : Event) where
   abbrev pub Open : ℕ → Type 0  -- circuit i is free or takeable
   Open i = (free (x i) ≡ true) ⊎ (takeable (e .mark) (x i) ≡ true)
 
+  abbrev HolderLower : ℕ → Bool  -- a holder of circuit i is strictly lower in the same domain
+  HolderLower i = not (x i .holder .present) || outranks (e .mark) (x i .holder .mark)
+
   abbrev pub Reason : Outcome → Type 0
   Reason (Refuse r) = Unit {0}
-  Reason (Do Seize i) = (e .kind ≡ 1) × ((Reserved i ≡ true) ⊎ Open i)
-  Reason (Do Reserve i) = (e .kind ≡ 3) × Open i
-  Reason (Do Release i) = e .kind ≡ 2
+  Reason (Do Seize i) = (e .kind ≡ 1) × (i < n) × (((Reserved i ≡ true) × (HolderLower i ≡ true)) ⊎ Open i)
+  Reason (Do Reserve i) = (e .kind ≡ 3) × (i < n) × Open i
+  Reason (Do Release i) = (e .kind ≡ 2) × (Held i ≡ true)
   Reason (Do Cancel i) = (e .kind ≡ 4) × (Reserved i ≡ true)
   Reason Clock = e .kind ≡ 5
 
-  by-choice : (y : ℕ → Outcome) (z : Outcome) → ((i : ℕ) → Open i → Reason (y i)) → Reason z → Reason (found (choice x n (e .mark)) y z)
+  by-choice : (y : ℕ → Outcome) (z : Outcome) → ((i : ℕ) → i < n → Open i → Reason (y i)) → Reason z → Reason (found (choice x n (e .mark)) y z)
   by-choice y z g h = go (choice x n (e .mark)) (choice-is x n (e .mark))
     where
       go : (r : Found) → ChoiceIs x n (e .mark) r → Reason (found r y z)
-      go (At i) k = g i (⊎-elim (λ f. inl (f .0)) (λ t. inr (t .1)) (k .1))
+      go (At i) k = g i (k .0) (⊎-elim (λ f. inl (f .0)) (λ t. inr (t .1)) (k .1))
       go Nothing k = h
 
   set-up : e .kind ≡ 1 → Reason (setUp x n e)
@@ -64,9 +67,9 @@ module _ (x : ℕ → Circuit) (n : ℕ) (e : Event) where
       by-first Reason Reserved n _ _
       (λ i l h.
       by-test Reason (sameMark (e .mark) (x i .reservation .mark)) _ (Refuse MarkDiffers)
-      (λ q. by-test Reason (not (x i .holder .present) || outranks (e .mark) (x i .holder .mark)) (Do Seize i) (Refuse HolderNotLower) (λ r. (k, inl h)) (λ r. tt))
+      (λ q. by-test Reason (HolderLower i) (Do Seize i) (Refuse HolderNotLower) (λ r. (k, l, inl (h, r))) (λ r. tt))
       (λ q. tt))
-      (λ b. by-choice (Do Seize) (Refuse (blocked e)) (λ i o. (k, inr o)) tt))
+      (λ b. by-choice (Do Seize) (Refuse (blocked e)) (λ i l o. (k, l, inr o)) tt))
 
   look-ahead : e .kind ≡ 3 → Reason (lookAhead x n e)
   unfolding lookAhead heldBy reservedBy
@@ -78,7 +81,7 @@ module _ (x : ℕ → Circuit) (n : ℕ) (e : Event) where
       by-first Reason Held n (λ i. Refuse AlreadyThere) _ (λ i l h. tt)
       (λ a.
       by-first Reason Reserved n (λ i. Refuse AlreadyThere) _ (λ i l h. tt)
-      (λ b. by-choice (Do Reserve) (Refuse NoCircuitToReserve) (λ i o. (k, o)) tt)))
+      (λ b. by-choice (Do Reserve) (Refuse NoCircuitToReserve) (λ i l o. (k, l, o)) tt)))
       (λ q. tt))
       (λ q. tt)
 
@@ -87,7 +90,7 @@ module _ (x : ℕ → Circuit) (n : ℕ) (e : Event) where
   reason =
       by-kind Reason (eqb (e .kind) 1) (marked e) _ (setUp x n e) _ (λ k. set-up (eqb-true (e .kind) 1 k))
       (by-kind Reason (eqb (e .kind) 2) (e .plain) _ (release x n e) _
-      (λ k. by-first Reason Held n (Do Release) (Refuse NotThere) (λ i l h. eqb-true (e .kind) 2 k) (λ a. tt))
+      (λ k. by-first Reason Held n (Do Release) (Refuse NotThere) (λ i l h. (eqb-true (e .kind) 2 k, h)) (λ a. tt))
       (by-kind Reason (eqb (e .kind) 3) (marked e) _ (lookAhead x n e) _ (λ k. look-ahead (eqb-true (e .kind) 3 k))
       (by-kind Reason (eqb (e .kind) 4) (e .plain) _ (cancel x n e) Clock
       (λ k. by-first Reason Reserved n (Do Cancel) (Refuse NotThere) (λ i l h. (eqb-true (e .kind) 4 k, h)) (λ b. tt))

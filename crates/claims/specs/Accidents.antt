@@ -1,4 +1,4 @@
--- The customer's two accidents, which cannot happen: a mark left on a circuit whose party is gone, and a reservation gone for no reason; and no call in two places.
+-- The customer's two accidents, which cannot happen: a mark left on a circuit whose party is gone, and a reservation gone for no reason; nor is a holder gone for none; and no call in two places.
 use Prim.Native.Nat.{ℕ, _+_, _*_, _-_, _%_, _<_, _≤_}
 use mathlib.Core.Path.{_≡_}
 use mathlib.Core.Logic.{_⊎_}
@@ -6,6 +6,7 @@ use mathlib.Core.Bool.{true, false}
 use mathlib.Core.List.{List, [], _∷_, _++_}
 use lib.ListN.{replicate}
 use Rattle.octets.specs.Span.{span}
+use Rattle.rules.specs.declared.part.Part.{Part}
 use Rattle.rules.specs.declared.circuit.Circuit.{Circuit}
 use Rattle.rules.specs.Circuit.{nobody}
 use Rattle.rules.specs.Records.{circuitAt}
@@ -26,6 +27,28 @@ abbrev pub NoMarkLeft : Type 0
 NoMarkLeft =
     (n : ℕ) (lists : List EventList) (c : ℕ) → c < n → OnlyWithParty (tableAfter (emptyTable n) lists) c (history (past (emptyTable n) lists) c)
 
+-- turn p is the event of kind k of the call in part q itself, and its answer names circuit c
+pub record Own (k c : ℕ) (q : Part) (p : Turn) : Type 0 where
+  pub kind : asked p .kind ≡ k
+  pub party : StandsIn (asked p .reference) q
+  pub place : answerPlace (p .answer) ≡ c
+
+-- turn p is that of a strictly higher call in the same domain than the call in part q, and its answer names circuit c and, from octet o
+-- on, the call in part q
+pub record Taken (o c : ℕ) (q : Part) (p : Turn) : Type 0 where
+  pub domain : asked p .mark .domain ≡ q .mark .domain
+  pub level : asked p .mark .level .0 < q .mark .level .0
+  pub place : answerPlace (p .answer) ≡ c
+  pub loser : span (p .answer) o 6 ≡ 1 ∷ q .reference
+
+-- after any lists from an empty table: the call that the history shows in this part of a circuit stays at each turn, or goes by it
+abbrev pub StaysOrGoes : (Circuit → Part) → (Circuit → Circuit → Type 0) → (ℕ → Circuit → Turn → Type 0) → Type 0
+StaysOrGoes part stays goes =
+    (n : ℕ) (lists : List EventList) (before : List Turn) (p : Turn) (later : List Turn)
+    → past (emptyTable n) lists ≡ before ++ p ∷ later
+    → (c : ℕ) → c < n → part (history before c) .present ≡ true
+    → stays (history before c) (history (before ++ p ∷ []) c) ⊎ goes c (history before c) p
+
 -- the clock less the stored clock of circuit y, modulo 4,294,967,296, is 3,000 or more
 abbrev pub Old : ℕ → Circuit → Type 0
 Old clock y = 3000 ≤ (clock + 4294967296 - y .clock) % 4294967296
@@ -33,15 +56,11 @@ Old clock y = 3000 ≤ (clock + 4294967296 - y .clock) % 4294967296
 -- turn p takes the reservation of circuit c, which is y, away
 pub data Goes (c : ℕ) (y : Circuit) (p : Turn) : Type 0 where
   -- its own set-up, answered by 1 or 2: the call then holds the circuit
-  own-set-up : asked p .kind ≡ 1 → StandsIn (asked p .reference) (y .reservation)
-      → (answerNumber (p .answer) ≡ 1) ⊎ (answerNumber (p .answer) ≡ 2) → answerPlace (p .answer) ≡ c → Goes c y p
+  own-set-up : Own 1 c (y .reservation) p → (answerNumber (p .answer) ≡ 1) ⊎ (answerNumber (p .answer) ≡ 2) → Goes c y p
   -- its cancel, answered by 6
-  cancelled : asked p .kind ≡ 4 → StandsIn (asked p .reference) (y .reservation)
-      → answerNumber (p .answer) ≡ 6 → answerPlace (p .answer) ≡ c → Goes c y p
+  cancelled : Own 4 c (y .reservation) p → answerNumber (p .answer) ≡ 6 → Goes c y p
   -- a set-up or look-ahead of a strictly higher call in the same domain, whose answer names it
-  higher-call : (asked p .kind ≡ 1) ⊎ (asked p .kind ≡ 3) → asked p .mark .domain ≡ y .reservation .mark .domain
-      → asked p .mark .level .0 < y .reservation .mark .level .0
-      → answerPlace (p .answer) ≡ c → span (p .answer) 10 6 ≡ 1 ∷ y .reservation .reference → Goes c y p
+  higher-call : (asked p .kind ≡ 1) ⊎ (asked p .kind ≡ 3) → Taken 10 c (y .reservation) p → Goes c y p
   -- a clock event, answered by 7, at 3,000 steps or more
   overdue : asked p .kind ≡ 5 → answerNumber (p .answer) ≡ 7 → Old (asked p .clock) y → Goes c y p
 
@@ -51,17 +70,28 @@ Stays y z = (z .reservation ≡ y .reservation) × (z .clock ≡ y .clock)
 -- THE SECOND ACCIDENT: "a reservation goes only by its own set-up, its cancel, a strictly higher call in the same domain whose answer
 -- names it, or a clock event at 3,000 steps or more"
 abbrev pub NoReservationLost : Type 0
-NoReservationLost =
-    (n : ℕ) (lists : List EventList) (before : List Turn) (p : Turn) (later : List Turn)
-    → past (emptyTable n) lists ≡ before ++ p ∷ later
-    → (c : ℕ) → c < n → history before c .reservation .present ≡ true
-    → Stays (history before c) (history (before ++ p ∷ []) c) ⊎ Goes c (history before c) p
+NoReservationLost = StaysOrGoes (λ y. y .reservation) Stays Goes
 
 -- and a clock event that was taken removes each reservation that is old, and no other
 abbrev pub OldOnesGo : Type 0
 OldOnesGo =
     (p : Turn) (c : ℕ) (y : Circuit) → answerNumber (p .answer) ≡ 7 → y .reservation .present ≡ true
     → (Old (asked p .clock) y → heard p c y .reservation ≡ nobody) × ((Old (asked p .clock) y → ⊥) → Stays y (heard p c y))
+
+-- turn p takes the holder of circuit c, which is y, away
+pub data HolderGoes (c : ℕ) (y : Circuit) (p : Turn) : Type 0 where
+  -- its release, answered by 5
+  released : Own 2 c (y .holder) p → answerNumber (p .answer) ≡ 5 → HolderGoes c y p
+  -- the set-up of a strictly higher call in the same domain, with a reservation there or without, answered by 2 and the holder's name
+  higher-set-up : asked p .kind ≡ 1 → answerNumber (p .answer) ≡ 2 → Taken 4 c (y .holder) p → HolderGoes c y p
+
+abbrev pub HolderStays : Circuit → Circuit → Type 0  -- the same party holds it under the same mark
+HolderStays y z = z .holder ≡ y .holder
+
+-- the same of a holder, which goes only by its release or the set-up of a strictly higher call in the same domain whose answer names it:
+-- at a look-ahead "a holder stays", at a cancel "the other part stays", and a clock event takes reservations alone
+abbrev pub NoHolderLost : Type 0
+NoHolderLost = StaysOrGoes (λ y. y .holder) HolderStays HolderGoes
 
 -- call reference r, where x c is what the history shows of circuit c
 pub record InOnePart (n : ℕ) (x : ℕ → Circuit) (r : List ℕ) : Type 0 where
