@@ -18,3 +18,4 @@ pub mod Reservations
 pub mod Holders
 pub mod Alone
 pub mod Checked
+pub mod Filled

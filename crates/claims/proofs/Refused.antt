@@ -67,13 +67,13 @@ refused-answer t e = refused-octets t (eventAt e) (decide records t (eventAt e))
 
 -- what its three results are, by its lengths
 module _ (t e place : List ℕ) where
-  lengths-right : eventNumber t e place ≢ 20 → eventLengths t e place ≡ true
+  pub lengths-right : eventNumber t e place ≢ 20 → eventLengths t e place ≡ true
   unfolding eventNumber
   lengths-right h =
       by-so (eventLengths t e place) (λ q. q) (λ q. absurd (h (ap (λ (b : Bool). cond b (answered records t e .number) lengthWrong) q)))
 
   module _ (q : eventLengths t e place ≡ true) where
-    number-then : eventNumber t e place ≡ answered records t e .number
+    pub number-then : eventNumber t e place ≡ answered records t e .number
     unfolding eventNumber
     number-then = ap (λ (b : Bool). cond b (answered records t e .number) lengthWrong) q
 

@@ -4,6 +4,7 @@ use mathlib.Core.Path.{_≡_}
 use mathlib.Core.Logic.{_≢_}
 use mathlib.Core.List.{List, [], _∷_}
 use lib.ListN.{length, replicate}
+use Rattle.octets.specs.Span.{span}
 use Rattle.rules.specs.declared.circuit.Circuit.{Circuit}
 use Rattle.rules.specs.Numbers.{causeOf}
 use Rattle.rules.specs.Records.{checkNumber}
@@ -61,3 +62,9 @@ RefusalKeepsHistory = (p : Turn) (c : ℕ) (y : Circuit) → 20 ≤ answerNumber
 abbrev pub RefusedList : Type 0
 RefusedList =
     (t es places : List ℕ) → listNumber t es places ≡ 20 → (listTable t es places ≡ t) × (listAnswers t es places ≡ places)
+
+-- "The fields at 4 and 10 are filled for answers 2 and 4 only": octets 4 to 15 are zero else
+abbrev pub OnlyTwoAndFour : Type 0
+OnlyTwoAndFour =
+    (t e place : List ℕ) → eventNumber t e place ≢ 2 → eventNumber t e place ≢ 4 → eventNumber t e place ≢ 20
+    → span (eventAnswer t e place) 4 12 ≡ replicate 12 0
