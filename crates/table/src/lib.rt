@@ -139,7 +139,7 @@ pub fn flags(t: &[u8], i: usize) -> bool
 }
 
 // Twelve octets are zero, four by four.
-fn zero_twelve(t: &[u8], o: usize) -> bool
+pub fn zero_twelve(t: &[u8], o: usize) -> bool
     requires { ⌜ o + 12 ≤ length (now t) ⌝ }
     ensures { λ r. ⌜ r ≡ zeros (span (now (t .entry)) o 12) ⌝ }
 {
@@ -152,7 +152,8 @@ fn zero_twelve(t: &[u8], o: usize) -> bool
     octets::zero_four(t, o + 8)
 }
 
-fn zero_sixteen(t: &[u8], o: usize) -> bool
+// Sixteen are.
+pub fn zero_sixteen(t: &[u8], o: usize) -> bool
     requires { ⌜ o + 16 ≤ length (now t) ⌝ }
     ensures { λ r. ⌜ r ≡ zeros (span (now (t .entry)) o 16) ⌝ }
 {

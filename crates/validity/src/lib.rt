@@ -1,4 +1,5 @@
-// The check of a table: its first fault, and the number of it.
+// The check of a table: its first fault, and the number of it. Each record is first looked at part by part, which is quick;
+// the reasons are gone through, in their order, only where that finds something.
 use rules::circuit::Circuit;
 use rules::part::Part;
 use rules::search::Found;
@@ -6,12 +7,14 @@ use rules::verdict::Reason;
 use rules::verdict::Verdict;
 ghost use mathlib.Core.Path.{_≡_};
 ghost use mathlib.Core.Bool.{_&&_};
-ghost use Prim.Native.Nat.{_/_, _<_};
+ghost use Prim.Native.Nat.{_+_, _/_, _<_, _≤_};
 ghost use lib.ListN.{length};
 ghost use Rattle.rules.specs.Fields.{levelOk, decimal, codeOk};
 ghost use Rattle.rules.specs.Valid.{ifPresent, levelsOk, fieldsOk, pairOk, isValid, verdictNumber, recordVerdict, recordsTo, partsTo};
 ghost use Rattle.rules.specs.Valid as rule;
 ghost use Rattle.rules.specs.Records.{circuitAt, flagsAt, records, checkNumber};
+ghost use Rattle.validity.specs.Order.{partInOrder, inOrder};
+ghost use Rattle.validity.specs.Order as order;
 
 fn level_ok(p: Part) -> bool
     ensures { λ r. ⌜ r ≡ ifPresent p (levelOk (p .mark .level .0)) ⌝ }
@@ -109,6 +112,75 @@ fn record(t: &[u8], i: usize) -> Verdict
     Verdict::Valid
 }
 
+// What is asked of a part that is present, by itself.
+fn fit(p: Part) -> bool
+    ensures { λ r. ⌜ r ≡ order.fit p ⌝ }
+{
+    let domain = p.mark.domain;
+    let reference = p.reference;
+    if !p.mark.level.known() {
+        return false;
+    }
+    if !rules::parameter::decimal(domain) {
+        return false;
+    }
+    code_ok(reference)
+}
+
+fn holder_in_order(t: &[u8], o: usize) -> bool
+    requires { ⌜ o + 12 ≤ length (now t) ⌝ }
+    ensures { λ r. ⌜ r ≡ partInOrder (now (t .entry)) o 12 ⌝ }
+{
+    let p = table::part_at(t, o);
+    if p.present {
+        fit(p)
+    } else {
+        table::zero_twelve(t, o)
+    }
+}
+
+fn reservation_in_order(t: &[u8], o: usize) -> bool
+    requires { ⌜ o + 16 ≤ length (now t) ⌝ }
+    ensures { λ r. ⌜ r ≡ partInOrder (now (t .entry)) o 16 ⌝ }
+{
+    let p = table::part_at(t, o);
+    if p.present {
+        fit(p)
+    } else {
+        table::zero_sixteen(t, o)
+    }
+}
+
+// Nothing is wrong with record i.
+fn in_order(t: &[u8], i: usize) -> bool
+    requires { ⌜ i < length (now t) / 32 ⌝ }
+    ensures { λ r. ⌜ r ≡ inOrder (now (t .entry)) i ⌝ }
+{
+    let o = 32 * i;
+    if !holder_in_order(t, o) {
+        return false;
+    }
+    if !reservation_in_order(t, o + 12) {
+        return false;
+    }
+    if !octets::zero_four(t, o + 28) {
+        return false;
+    }
+    pair_ok(table::circuit_at(t, i))
+}
+
+// The same verdict, given at once of a record in order.
+fn judge(t: &[u8], i: usize) -> Verdict
+    requires { ⌜ i < length (now t) / 32 ⌝ }
+    ensures { λ r. ⌜ r ≡ recordVerdict records (now (t .entry)) i ⌝ }
+{
+    if in_order(t, i) {
+        Verdict::Valid
+    } else {
+        record(t, i)
+    }
+}
+
 fn is_valid(v: Verdict) -> bool
     ensures { λ r. ⌜ r ≡ isValid v ⌝ }
 {
@@ -125,7 +197,7 @@ fn each_record(t: &[u8]) -> Verdict
     let n = table::count(t);
     let mut i = 0;
     while i < n {
-        let v = record(t, i);
+        let v = judge(t, i);
         if !is_valid(v) {
             return v;
         }

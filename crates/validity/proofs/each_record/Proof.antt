@@ -26,7 +26,7 @@ faulty : tie.Need-returns Inv-loop μ-loop
 faulty c =
     let four = c .before .before .before .before in
     let t = now (four .before .before .before .args .t) in
-    let v = c .before .before .record .ensures in
+    let v = c .before .before .judge .ensures in
     v
     ∙ sym (first-fault records t (length t / 32) (four .loop .i) (omega arith) (four .loop .inv .1) (ap isValid (sym v) ∙ sym (c .before .is-valid .ensures) ∙ not-true _ (c .if1 .taken)))
 
@@ -34,7 +34,7 @@ again : tie.Need-loop-again Inv-loop μ-loop
 again c =
     let four = c .before .before .before .before in
     let t = now (four .before .before .before .args .t) in
-    let v = c .before .before .record .ensures in (
+    let v = c .before .before .judge .ensures in (
       omega arith,
       ap (recordsTo records t) (add-one (four .loop .i)) ∙ records-more records t (four .loop .i) (four .loop .inv .1) (sym v ∙ no-fault _ (sym (c .before .is-valid .ensures) ∙ not-false _ (c .if1 .left))),
       four .loop .inv .2,
