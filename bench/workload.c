@@ -214,12 +214,17 @@ void make_all_parts(uint8_t *table, size_t circuits)
 
 void make_all_parts_alike(uint8_t *table, size_t circuits)
 {
-    /* crates/references: a reference, as one number, has the bits v % 6143 and v / 6143 % 6144. */
-    const uint64_t apart = 6143 * 6144;
+    /* crates/references: a reference whose fifth octet is 0 is noted by its number times 1540483477; bits 20 to 37 of the product are its
+     * word and its bits. The products here are alike in these; `back` undoes the multiplication in the lowest 38 bits. */
+    const uint64_t back = 81161558461, lowest = ((uint64_t)1 << 38) - 1;
+    uint64_t product = (uint64_t)12345 << 20;
     make_all_parts(table, circuits);
-    for (uint64_t i = 0; i < 2 * circuits; i++) {
+    for (size_t i = 0; i < 2 * circuits; i++) {
         uint8_t *part = table + i / 2 * NAUSTVRI_CIRCUIT_SIZE + (i % 2 ? NAUSTVRI_CIRCUIT_RESERVED : NAUSTVRI_CIRCUIT_HELD);
-        uint64_t v = 12345 + apart * i;
+        uint64_t v;
+        do {
+            v = product++ * back & lowest;
+        } while (v >> 32);
         struct naustvri_reference reference = {.identity = (uint32_t)(v & 0xffffff), .point = (uint16_t)(v >> 24)};
         plain_write_reference(part + 7, NAUSTVRI_REFERENCE_SIZE, reference);
     }

@@ -1,62 +1,94 @@
--- Setting a bit keeps the others; and what the filter says of a reference.
-use Prim.Native.Nat.{ℕ, zero, suc, _+_, _*_, _/_, _%_, _<_, _≤_, _^_}
-use mathlib.Core.Path.{_≡_, refl, sym, ap, _∙_, subst}
-use mathlib.Core.Bool.{Bool, true, false, _&&_, true≢false}
+-- Setting bits keeps those that were set; and what the filter says of a part.
+use Prim.Native.Nat.{ℕ, zero, suc, _+_, _*_, _/_, _%_, _<_}
+use mathlib.Core.Path.{_≡_, refl, sym, ap, ap₂, _∙_, subst}
+use mathlib.Core.Bool.{Bool, true, false, cond, _&&_, _||_, and-true, true≢false}
 use mathlib.Core.List.{List}
+use native.Mathlib.Nat.{div-add-mod'}
 use native.Mathlib.Numerals.{add-one}
 use native.Mathlib.Omega.{arith}
+use lib.Arith.{bin-ind}
 use lib.ListN.{length, getD, set, length-set}
 use lib.Seq.{getD-set-same, getD-set-other}
-use lib.Bits.{bitOr, or-shr, or-mod, or-comm}
-use lib.Pow.{shl-exact, shl-shr}
+use lib.Bits.{bitOr, or-shr, or-mod, or-comm, or-self}
+use borrow.Author.Tests.{eqb-true, eq-eqb}
 use Rattle.octets.specs.Same.{same}
-use Rattle.octets.proofs.Tests.{and-left, and-right, by-eq, not-so}
+use Rattle.octets.proofs.Tests.{and-left, and-right, and-both, by-eq, not-so}
 use Rattle.octets.proofs.Sames.{same-true}
 use Rattle.octets.proofs.Spans.{grow}
 use Rattle.rules.specs.declared.part.Part.{Part}
 use Rattle.rules.specs.declared.circuit.Circuit.{Circuit}
+use Rattle.rules.specs.declared.search.Found.{Found}
+use Rattle.rules.specs.declared.search.Found.the-variants.{At, Nothing}
+use Rattle.rules.specs.Circuit.{isOf}
+use Rattle.rules.specs.Search.{orElse, firstTo, found}
 use Rattle.rules.specs.Valid.{partNo, clash, repeated}
-use Rattle.rules.proofs.Searches.{nothing-found}
-use Rattle.references.specs.Filter.{bit, Both, Seen, Grown}
+use Rattle.rules.proofs.Searches.{first-cong, nothing-found, some-found}
+use Rattle.references.specs.Filter.{spread, wordOf, bitsIn, wordFor, already, standsTo, Grown, Kept, Seen}
 
 -- ---- bits in words
-or-one : (x : ℕ) → x < 2 → bitOr 1 x ≡ 1
-or-one zero h = refl
-or-one (suc zero) h = refl
-or-one (suc (suc x)) h = absurd (omega arith)
+or-bits : (x y z : ℕ) → x < 2 → y < 2 → z < 2 → bitOr (bitOr x y) z ≡ bitOr x (bitOr y z)
+or-bits zero y z h k l = refl
+or-bits (suc zero) zero z h k l = refl
+or-bits (suc zero) (suc zero) zero h k l = refl
+or-bits (suc zero) (suc zero) (suc zero) h k l = refl
+or-bits (suc zero) (suc zero) (suc (suc z)) h k l = absurd (omega arith)
+or-bits (suc zero) (suc (suc y)) z h k l = absurd (omega arith)
+or-bits (suc (suc x)) y z h k l = absurd (omega arith)
 
-set-or : (a v k : ℕ) → a / 2 ^ k % 2 ≡ 1 → bitOr a v / 2 ^ k % 2 ≡ 1
-set-or a v k h =
-    ap (λ (n : ℕ). n % 2) (or-shr a v k) ∙ or-mod (a / 2 ^ k) (v / 2 ^ k) 1
-    ∙ ap (λ (n : ℕ). bitOr n (v / 2 ^ k % 2)) h ∙ or-one (v / 2 ^ k % 2) (omega arith)
+or-assoc : (a b c : ℕ) → bitOr (bitOr a b) c ≡ bitOr a (bitOr b c)
+or-assoc =
+    bin-ind (λ (a : ℕ). (b c : ℕ) → bitOr (bitOr a b) c ≡ bitOr a (bitOr b c)) (λ b c. refl)
+    (λ a ih b c.
+    let high =
+    or-shr (bitOr a b) c 1 ∙ ap (λ (n : ℕ). bitOr n (c / 2)) (or-shr a b 1) ∙ ih (b / 2) (c / 2)
+    ∙ ap (bitOr (a / 2)) (sym (or-shr b c 1)) ∙ sym (or-shr a (bitOr b c) 1) in
+    let low =
+    or-mod (bitOr a b) c 1 ∙ ap (λ (n : ℕ). bitOr n (c % 2)) (or-mod a b 1) ∙ or-bits (a % 2) (b % 2) (c % 2) (omega arith) (omega arith) (omega arith)
+    ∙ ap (bitOr (a % 2)) (sym (or-mod b c 1)) ∙ sym (or-mod a (bitOr b c) 1) in
+    sym (div-add-mod' (bitOr (bitOr a b) c) 2) ∙ ap₂ (λ (m n : ℕ). m * 2 + n) high low ∙ div-add-mod' (bitOr a (bitOr b c)) 2)
 
-abbrev single : ℕ → ℕ
-single b = 1 * 2 ^ b % 18446744073709551616
+-- what was set is set after more is
+or-kept : (a b c : ℕ) → bitOr a c ≡ a → bitOr (bitOr a b) c ≡ bitOr a b
+or-kept a b c h =
+    or-assoc a b c ∙ ap (bitOr a) (or-comm b c) ∙ sym (or-assoc a c b) ∙ ap (λ (n : ℕ). bitOr n b) h
 
-set-here : (a b : ℕ) → b < 64 → bitOr a (single b) / 2 ^ b % 2 ≡ 1
-set-here a b l =
-    ap (λ (n : ℕ). n / 2 ^ b % 2) (or-comm a (single b))
-    ∙ set-or (single b) a b (ap (λ (n : ℕ). n / 2 ^ b % 2) (shl-exact 1 b 64 (omega arith) (omega arith)) ∙ ap (λ (n : ℕ). n % 2) (shl-shr 1 b))
+or-again : (a b : ℕ) → bitOr (bitOr a b) b ≡ bitOr a b
+or-again a b = or-assoc a b b ∙ ap (bitOr a) (or-self b)
 
-pub grown : (w : List ℕ) (s : ℕ) → s / 64 < length w → Grown w (set w (s / 64) (bitOr (getD w (s / 64) 0) (single (s % 64)))) s
-unfolding bit
-grown w s l =
+pub grown : (w r : List ℕ) → wordOf (spread r) < length w → Grown w (set w (wordOf (spread r)) (bitOr (wordFor w r) (bitsIn (spread r)))) r
+grown w r l =
     record {
-      long = length-set w (s / 64) y;
-      kept = λ k h. by-eq (k / 64) (s / 64) (same-word k h) (λ n. ap (λ (n : ℕ). n / 2 ^ (k % 64) % 2) (getD-set-other w (s / 64) (k / 64) y 0 n) ∙ h);
-      here = ap (λ (n : ℕ). n / 2 ^ (s % 64) % 2) (getD-set-same w (s / 64) y 0 l) ∙ set-here (getD w (s / 64) 0) (s % 64) (omega arith);
+      long = length-set w k y;
+      kept = λ s h. by-eq (wordOf (spread s)) k (same-word s h) (other-word s h);
+      here = eq-eqb _ _ (ap (λ (n : ℕ). bitOr n (bitsIn (spread r))) at ∙ or-again (wordFor w r) (bitsIn (spread r)) ∙ sym at);
     }
   where
+    k : ℕ
+    k = wordOf (spread r)
+
     y : ℕ
-    y = bitOr (getD w (s / 64) 0) (single (s % 64))
+    y = bitOr (wordFor w r) (bitsIn (spread r))
 
-    same-word : (k : ℕ) → bit w k ≡ 1 → k / 64 ≡ s / 64 → bit (set w (s / 64) y) k ≡ 1
-    same-word k h e =
-        ap (λ (n : ℕ). getD (set w (s / 64) y) n 0 / 2 ^ (k % 64) % 2) e
-        ∙ ap (λ (n : ℕ). n / 2 ^ (k % 64) % 2) (getD-set-same w (s / 64) y 0 l)
-        ∙ set-or (getD w (s / 64) 0) (single (s % 64)) (k % 64) (ap (λ (n : ℕ). getD w n 0 / 2 ^ (k % 64) % 2) (sym e) ∙ h)
+    at : wordFor (set w k y) r ≡ y
+    at = getD-set-same w k y 0 l
 
--- ---- references
+    same-word : (s : List ℕ) → already w s ≡ true → wordOf (spread s) ≡ k → already (set w k y) s ≡ true
+    same-word s h e =
+        let there : wordFor (set w k y) s ≡ y = ap (λ (n : ℕ). getD (set w k y) n 0) e ∙ at in
+        let was : bitOr (wordFor w r) (bitsIn (spread s)) ≡ wordFor w r = ap (λ (n : ℕ). bitOr (getD w n 0) (bitsIn (spread s))) (sym e) ∙ eqb-true _ _ h ∙ ap (λ (n : ℕ). getD w n 0) e in
+        eq-eqb _ _ (ap (λ (n : ℕ). bitOr n (bitsIn (spread s))) there ∙ or-kept (wordFor w r) (bitsIn (spread r)) (bitsIn (spread s)) was ∙ sym there)
+
+    other-word : (s : List ℕ) → already w s ≡ true → (wordOf (spread s) ≡ k → ⊥) → already (set w k y) s ≡ true
+    other-word s h n =
+        let there : wordFor (set w k y) s ≡ wordFor w s = getD-set-other w k (wordOf (spread s)) y 0 n in
+        eq-eqb _ _ (ap (λ (n : ℕ). bitOr n (bitsIn (spread s))) there ∙ eqb-true _ _ h ∙ sym there)
+
+-- neither of two tests
+pub neither : (a b : Bool) → a || b ≡ false → (a ≡ false) × (b ≡ false)
+neither true b h = absurd (true≢false h)
+neither false b h = (refl, h)
+
+-- ---- parts
 -- two parts clash where both are present and have one reference
 no-clash : (p q : Part) → (p .present ≡ true → q .present ≡ true → p .reference ≡ q .reference → ⊥) → clash p q ≡ false
 no-clash p q h =
@@ -65,27 +97,57 @@ no-clash p q h =
     let l = and-left (p .present && q .present) (same (p .reference) (q .reference)) e in
     h (and-left (p .present) (q .present) l) (and-right (p .present) (q .present) l) (same-true (p .reference) (q .reference) (and-right (p .present && q .present) (same (p .reference) (q .reference)) e)))
 
-module _ (x : ℕ → Circuit) (j : ℕ) where
-  pub new-at : ((k : ℕ) → k < j → clash (partNo x k) (partNo x j) ≡ false) → repeated x j ≡ false
+-- ---- searches
+or-nothing : (r : Found) → orElse r Nothing ≡ r
+or-nothing (At i) = refl
+or-nothing Nothing = refl
+
+module _ (x : ℕ → Circuit) (r : List ℕ) where
+  -- the call stands in part k
+  pub stands-at : (n k : ℕ) → k < n → isOf r (partNo x k) ≡ true → standsTo x r n ≡ true
+  unfolding standsTo
+  stands-at n k l h = some-found (λ i. isOf r (partNo x i)) n k l h
+
+  -- it does not stand in part n
+  pub stands-past : (n : ℕ) → isOf r (partNo x n) ≡ false → standsTo x r n ≡ standsTo x r (n + 1)
+  unfolding standsTo
+  stands-past n h =
+      sym
+      (ap (λ (m : ℕ). found (firstTo (λ i. isOf r (partNo x i)) m) (λ i. true) false) (add-one n)
+      ∙ ap (λ (b : Bool). found (orElse (firstTo (λ i. isOf r (partNo x i)) n) (cond b (At n) Nothing)) (λ i. true) false) h
+      ∙ ap (λ (f : Found). found f (λ i. true) false) (or-nothing (firstTo (λ i. isOf r (partNo x i)) n)))
+
+-- ---- part j, which code has read as p
+module _ (x : ℕ → Circuit) (j : ℕ) (w : List ℕ) (m : Seen x w j) (p : Part) (y : p ≡ partNo x j) where
+  -- it is new if it is absent, or one of its bits is not set
+  pub new-part : p .present && already w (p .reference) ≡ false → repeated x j ≡ false
   unfolding repeated
-  new-at h = nothing-found (λ k. clash (partNo x k) (partNo x j)) j (λ k. true) false h
+  new-part h =
+      nothing-found (λ k. clash (partNo x k) (partNo x j)) j (λ k. true) false
+      (λ k l.
+      no-clash (partNo x k) (partNo x j)
+      (λ a b e.
+      let set = and-both _ _ b (subst (λ (r : List ℕ). already w r ≡ true) e (m .set k l a)) in
+      true≢false (sym set ∙ ap (λ (q : Part). q .present && already w (q .reference)) (sym y) ∙ h)))
 
-  -- a part that is absent is new
-  pub new-absent : partNo x j .present ≡ false → repeated x j ≡ false
-  new-absent h = new-at (λ k l. no-clash (partNo x k) (partNo x j) (λ p q e. true≢false (sym q ∙ h)))
+  -- of any other the search decides
+  pub by-search : p .present && already w (p .reference) ≡ true → standsTo x (p .reference) j ≡ repeated x j
+  unfolding repeated standsTo
+  by-search h =
+      let here : partNo x j .present ≡ true = ap (λ (q : Part). q .present) (sym y) ∙ and-left (p .present) (already w (p .reference)) h in
+      ap (λ (q : Part). standsTo x (q .reference) j) y
+      ∙ ap (λ (f : Found). found f (λ k. true) false)
+      (first-cong (λ k. isOf (partNo x j .reference) (partNo x k)) (λ k. clash (partNo x k) (partNo x j)) j
+      (λ k l. ap (λ (b : Bool). b && same (partNo x k .reference) (partNo x j .reference)) (sym (and-true (partNo x k .present)) ∙ ap (λ (b : Bool). partNo x k .present && b) (sym here))))
 
-  -- so is one of whose bits one is not set
-  pub new-unset : (w : List ℕ) → Seen x w j → (Both w (partNo x j .reference) → ⊥) → repeated x j ≡ false
-  new-unset w m h = new-at (λ k l. no-clash (partNo x k) (partNo x j) (λ p q e. h (subst (Both w) e (m .set k l p))))
-
-  -- one part more
-  pub seen-more : (w v : List ℕ) → Seen x w j → length v ≡ length w → ((k : ℕ) → bit w k ≡ 1 → bit v k ≡ 1)
-      → (partNo x j .present ≡ true → Both v (partNo x j .reference)) → Seen x v (j + 1)
-  seen-more w v m e keep here =
+  -- it is noted
+  pub seen-more : (v : List ℕ) → Kept w v p → Seen x v (j + 1)
+  seen-more v g =
       record {
-        full = e ∙ m .full;
+        full = g .long ∙ m .full;
         set =
             λ k l.
-            grow (λ (k : ℕ). partNo x k .present ≡ true → Both v (partNo x k .reference)) j
-            (λ i g p. let b = m .set i g p in record { first = keep _ (b .first); second = keep _ (b .second) }) here k (subst (λ (n : ℕ). k < n) (add-one j) l);
+            grow (λ (k : ℕ). partNo x k .present ≡ true → already v (partNo x k .reference) ≡ true) j
+            (λ i l p. g .kept _ (m .set i l p)) (subst (λ (q : Part). q .present ≡ true → already v (q .reference) ≡ true) y (g .here)) k
+            (subst (λ (n : ℕ). k < n) (add-one j) l);
       }

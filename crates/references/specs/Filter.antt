@@ -1,35 +1,55 @@
--- A filter of references: two of 6,144 bits for each, in 96 words.
-use Prim.Native.Nat.{ℕ, _/_, _%_, _<_, _^_}
+-- A filter of references: two bits of one of 64 words for each.
+use Prim.Native.Nat.{ℕ, _+_, _*_, _/_, _%_, _<_, _^_}
 use mathlib.Core.Path.{_≡_}
-use mathlib.Core.Bool.{true}
+use mathlib.Core.Bool.{Bool, true, false, _&&_}
 use mathlib.Core.List.{List}
 use lib.ListN.{length, getD}
-use Rattle.octets.specs.Number.{value}
+use lib.Dec.{eqb}
+use lib.Bits.{bitOr}
+use Rattle.octets.specs.Span.{span, number}
+use Rattle.rules.specs.declared.part.Part.{Part}
 use Rattle.rules.specs.declared.circuit.Circuit.{Circuit}
+use Rattle.rules.specs.Circuit.{isOf}
+use Rattle.rules.specs.Search.{firstTo, found}
 use Rattle.rules.specs.Valid.{partNo}
 
--- the two bits of a reference
-unfoldable pub one : List ℕ → ℕ
-one r = value r % 6143
+-- the number that a reference is noted by
+unfoldable pub spread : List ℕ → ℕ
+spread r = (number r 0 4 + 10368889 * getD r 4 0) * 1540483477
 
-unfoldable pub two : List ℕ → ℕ
-two r = value r / 6143 % 6144
+abbrev pub wordOf : ℕ → ℕ  -- which of the 64 words is its
+wordOf v = v / 67108864 % 64
 
-unfoldable pub bit : List ℕ → ℕ → ℕ  -- bit s of the words w: 0 or 1
-bit w s = getD w (s / 64) 0 / 2 ^ (s % 64) % 2
+abbrev pub single : ℕ → ℕ  -- bit b of a word
+single b = 1 * 2 ^ b % 18446744073709551616
+
+abbrev pub bitsIn : ℕ → ℕ  -- and which two bits of it
+bitsIn v = bitOr (single (v / 1048576 % 64)) (single (v / 4294967296 % 64))
+
+abbrev pub wordFor : List ℕ → List ℕ → ℕ  -- the word of a reference
+wordFor w r = getD w (wordOf (spread r)) 0
 
 -- both bits of a reference are set
-pub record Both (w r : List ℕ) : Type 0 where
-  pub first : bit w (one r) ≡ 1
-  pub second : bit w (two r) ≡ 1
+abbrev pub already : List ℕ → List ℕ → Bool
+already w r = eqb (bitOr (wordFor w r) (bitsIn (spread r))) (wordFor w r)
+
+-- bits that were set stay set, and those of r are
+pub record Grown (w v r : List ℕ) : Type 0 where
+  pub long : length v ≡ length w
+  pub kept : (s : List ℕ) → already w s ≡ true → already v s ≡ true
+  pub here : already v r ≡ true
+
+-- the same of a part: its bits are set if it is present
+pub record Kept (w v : List ℕ) (p : Part) : Type 0 where
+  pub long : length v ≡ length w
+  pub kept : (s : List ℕ) → already w s ≡ true → already v s ≡ true
+  pub here : p .present ≡ true → already v (p .reference) ≡ true
 
 -- each part before j that is present has both its bits set
 pub record Seen (x : ℕ → Circuit) (w : List ℕ) (j : ℕ) : Type 0 where
-  pub full : length w ≡ 96
-  pub set : (k : ℕ) → k < j → partNo x k .present ≡ true → Both w (partNo x k .reference)
+  pub full : length w ≡ 64
+  pub set : (k : ℕ) → k < j → partNo x k .present ≡ true → already w (partNo x k .reference) ≡ true
 
--- bits that were set stay set, and s is
-pub record Grown (w v : List ℕ) (s : ℕ) : Type 0 where
-  pub long : length v ≡ length w
-  pub kept : (k : ℕ) → bit w k ≡ 1 → bit v k ≡ 1
-  pub here : bit v s ≡ 1
+-- the call with reference r stands in one of the first n parts
+unfoldable pub standsTo : (ℕ → Circuit) → List ℕ → ℕ → Bool
+standsTo x r n = found (firstTo (λ k. isOf r (partNo x k)) n) (λ k. true) false

@@ -3,16 +3,15 @@
 use rules::part::Part;
 use rules::search::Found;
 ghost use mathlib.Core.Path.{_≡_};
-ghost use mathlib.Core.Bool.{_&&_};
-ghost use mathlib.Core.List.{_∷_, []};
-ghost use Prim.Native.Nat.{_+_, _*_, _/_, _<_};
+ghost use mathlib.Core.Bool.{_&&_, _||_};
+ghost use Prim.Native.Nat.{_+_, _*_, _/_, _<_, _≤_};
 ghost use lib.ListN.{length};
-ghost use lib.Dec.{eqb};
-ghost use Rattle.octets.specs.Number.{value};
+ghost use Rattle.rules.specs.Circuit.{isOf};
 ghost use Rattle.rules.specs.Search.{firstTo};
-ghost use Rattle.rules.specs.Valid.{partNo, clash, repeated};
+ghost use Rattle.rules.specs.Valid.{partNo, repeated};
 ghost use Rattle.rules.specs.Records.{circuitAt};
-ghost use Rattle.references.specs.Filter.{bit, Seen, Grown};
+ghost use Rattle.references.specs.Filter.{bitsIn, already, standsTo, Grown, Kept, Seen};
+ghost use Rattle.references.specs.Filter as filter;
 
 fn wide(x: u8) -> u64
     ensures { λ r. ⌜ (r ≡ x) × (r < 256) ⌝ }
@@ -20,67 +19,66 @@ fn wide(x: u8) -> u64
     x as u64
 }
 
-// The number in five octets; as a balanced sum, which is fewer loads.
-fn join_five(a: u8, b: u8, c: u8, d: u8, e: u8) -> u64
-    ensures { λ r. ⌜ r ≡ value (a ∷ b ∷ c ∷ d ∷ e ∷ []) ⌝ }
+// A number in which each octet of a reference tells on many bits, so that those of like references differ.
+fn spread(r: [u8; 5]) -> u64
+    ensures { λ v. ⌜ v ≡ filter.spread r ⌝ }
 {
-    let low = wide(a) + 256 * wide(b);
-    let middle = wide(c) + 256 * wide(d);
-    low + 65536 * middle + 4294967296 * wide(e)
+    let low = octets::join_four(r[0], r[1], r[2], r[3]) as u64;
+    (low + 10368889 * wide(r[4])) * 1540483477
 }
 
-fn key(r: [u8; 5]) -> u64
-    ensures { λ k. ⌜ k ≡ value r ⌝ }
+// Two bits of a word.
+fn bits(v: u64) -> u64
+    ensures { λ r. ⌜ r ≡ bitsIn v ⌝ }
 {
-    join_five(r[0], r[1], r[2], r[3], r[4])
+    (1 << (v / 1048576 % 64)) | (1 << (v / 4294967296 % 64))
 }
 
-fn is_set(w: &[u64; 96], s: usize) -> bool
-    requires { ⌜ s < 6144 ⌝ }
-    ensures { λ r. ⌜ r ≡ eqb (bit (now (w .entry)) s) 1 ⌝ }
+// The bits of a reference are set; whether they were.
+fn set_bits(w: &mut [u64; 64], r: [u8; 5]) -> bool
+    requires { ⌜ length (now w) ≡ 64 ⌝ }
+    ensures { λ b. ⌜ b ≡ already (now (w .entry)) r ⌝ }
+    ensures { λ _. ⌜ Grown (now (w .entry)) (now (w .exit)) r ⌝ }
 {
-    (w[s / 64] >> (s % 64)) % 2 == 1
+    let v = spread(r);
+    let k = (v / 67108864 % 64) as usize;
+    let old = w[k];
+    let new = old | bits(v);
+    w[k] = new;
+    new == old
 }
 
-fn both_set(w: &[u64; 96], s: usize, u: usize) -> bool
-    requires { ⌜ (s < 6144) × (u < 6144) ⌝ }
-    ensures { λ r. ⌜ r ≡ eqb (bit (now (w .entry)) s) 1 && eqb (bit (now (w .entry)) u) 1 ⌝ }
+// A part is noted; whether its reference may stand in an earlier one.
+fn may_repeat(w: &mut [u64; 64], p: Part) -> bool
+    requires { ⌜ length (now w) ≡ 64 ⌝ }
+    ensures { λ b. ⌜ b ≡ p .present && already (now (w .entry)) (p .reference) ⌝ }
+    ensures { λ _. ⌜ Kept (now (w .entry)) (now (w .exit)) p ⌝ }
 {
-    if is_set(w, s) { is_set(w, u) } else { false }
+    let r = p.reference;
+    if p.present { set_bits(w, r) } else { false }
 }
 
-fn set_bit(w: &mut [u64; 96], s: usize)
-    requires { ⌜ (s < 6144) × (length (now w) ≡ 96) ⌝ }
-    ensures { λ _. ⌜ Grown (now (w .entry)) (now (w .exit)) s ⌝ }
+// The call with this reference stands on circuit i.
+fn stands_on(t: &[u8], i: usize, r: [u8; 5]) -> bool
+    requires { ⌜ i < length (now t) / 32 ⌝ }
+    ensures { λ b. ⌜ b ≡ isOf r (partNo (circuitAt (now (t .entry))) (2 * i)) || isOf r (partNo (circuitAt (now (t .entry))) (2 * i + 1)) ⌝ }
 {
-    let k = s / 64;
-    w[k] = w[k] | (1 << (s % 64));
-}
-
-// Two parts that are present have one reference.
-fn clashes(p: Part, q: Part) -> bool
-    ensures { λ r. ⌜ r ≡ clash p q ⌝ }
-{
-    let here = p.reference;
-    let there = q.reference;
-    if !p.present {
-        return false;
+    let holder = table::part_no(t, 2 * i);
+    let reservation = table::part_no(t, 2 * i + 1);
+    if holder.is_of(r) {
+        return true;
     }
-    if !q.present {
-        return false;
-    }
-    octets::same_five(here, there)
+    reservation.is_of(r)
 }
 
-// Whether the reference of part j stands in an earlier part.
-fn stands_before(t: &[u8], j: usize) -> bool
-    requires { ⌜ j < 2 * (length (now t) / 32) ⌝ }
-    ensures { λ r. ⌜ r ≡ repeated (circuitAt (now (t .entry))) j ⌝ }
+// It stands on a circuit below i.
+fn stands_below(t: &[u8], i: usize, r: [u8; 5]) -> bool
+    requires { ⌜ i ≤ length (now t) / 32 ⌝ }
+    ensures { λ b. ⌜ b ≡ standsTo (circuitAt (now (t .entry))) r (2 * i) ⌝ }
 {
-    let q = table::part_no(t, j);
     let mut k = 0;
-    while k < j {
-        if clashes(table::part_no(t, k), q) {
+    while k < i {
+        if stands_on(t, k, r) {
             return true;
         }
         k += 1;
@@ -88,40 +86,53 @@ fn stands_before(t: &[u8], j: usize) -> bool
     false
 }
 
-// The same by the filter, in which part j is noted.
-fn note(t: &[u8], w: &mut [u64; 96], j: usize) -> bool
-    requires { ⌜ (j < 2 * (length (now t) / 32)) × Seen (circuitAt (now t)) (now w) j ⌝ }
-    ensures { λ r. ⌜ r ≡ repeated (circuitAt (now (t .entry))) j ⌝ }
-    ensures { λ _. ⌜ Seen (circuitAt (now (t .entry))) (now (w .exit)) (j + 1) ⌝ }
+// Whether the holder's reference of circuit i stands in an earlier part; it is noted.
+fn note_holder(t: &[u8], w: &mut [u64; 64], i: usize) -> bool
+    requires { ⌜ (i < length (now t) / 32) × Seen (circuitAt (now t)) (now w) (2 * i) ⌝ }
+    ensures { λ b. ⌜ b ≡ repeated (circuitAt (now (t .entry))) (2 * i) ⌝ }
+    ensures { λ _. ⌜ Seen (circuitAt (now (t .entry))) (now (w .exit)) (2 * i + 1) ⌝ }
 {
-    let p = table::part_no(t, j);
+    let p = table::part_no(t, 2 * i);
     let r = p.reference;
-    if !p.present {
+    if !may_repeat(w, p) {
         return false;
     }
-    let v = key(r);
-    let s = (v % 6143) as usize;
-    let u = (v / 6143 % 6144) as usize;
-    if both_set(w, s, u) {
-        return stands_before(t, j);
+    stands_below(t, i, r)
+}
+
+// The same of its reservation's, for which the holder's part is an earlier one.
+fn note_reservation(t: &[u8], w: &mut [u64; 64], i: usize) -> bool
+    requires { ⌜ (i < length (now t) / 32) × Seen (circuitAt (now t)) (now w) (2 * i + 1) ⌝ }
+    ensures { λ b. ⌜ b ≡ repeated (circuitAt (now (t .entry))) (2 * i + 1) ⌝ }
+    ensures { λ _. ⌜ Seen (circuitAt (now (t .entry))) (now (w .exit)) (2 * i + 1 + 1) ⌝ }
+{
+    let holder = table::part_no(t, 2 * i);
+    let p = table::part_no(t, 2 * i + 1);
+    let r = p.reference;
+    if !may_repeat(w, p) {
+        return false;
     }
-    set_bit(w, s);
-    set_bit(w, u);
-    false
+    if holder.is_of(r) {
+        return true;
+    }
+    stands_below(t, i, r)
 }
 
 // The first part whose reference stands in an earlier one.
 pub fn first_repeated(t: &[u8]) -> Found
     ensures { λ r. ⌜ r ≡ firstTo (repeated (circuitAt (now (t .entry)))) (2 * (length (now (t .entry)) / 32)) ⌝ }
 {
-    let n = 2 * (t.len() / 32);
-    let mut w = [0u64; 96];
-    let mut j = 0;
-    while j < n {
-        if note(t, &mut w, j) {
-            return Found::At(j);
+    let n = t.len() / 32;
+    let mut w = [0u64; 64];
+    let mut i = 0;
+    while i < n {
+        if note_holder(t, &mut w, i) {
+            return Found::At(2 * i);
         }
-        j += 1;
+        if note_reservation(t, &mut w, i) {
+            return Found::At(2 * i + 1);
+        }
+        i += 1;
     }
     Found::Nothing
 }
