@@ -23,7 +23,7 @@ use Rattle.rules.specs.Circuit.{isOf}
 use Rattle.rules.specs.Search.{orElse, firstTo, found}
 use Rattle.rules.specs.Valid.{partNo, clash, repeated}
 use Rattle.rules.proofs.Searches.{first-cong, nothing-found, some-found}
-use Rattle.references.specs.Filter.{spread, wordOf, bitsIn, wordFor, already, standsTo, Grown, Kept, Seen}
+use Rattle.references.specs.Filter.{spread, wordOf, bitsIn, wordFor, already, standsTo, Grown, Seen}
 
 -- ---- bits in words
 or-bits : (x y z : ℕ) → x < 2 → y < 2 → z < 2 → bitOr (bitOr x y) z ≡ bitOr x (bitOr y z)
@@ -55,12 +55,12 @@ or-kept a b c h =
 or-again : (a b : ℕ) → bitOr (bitOr a b) b ≡ bitOr a b
 or-again a b = or-assoc a b b ∙ ap (bitOr a) (or-self b)
 
-pub grown : (w r : List ℕ) → wordOf (spread r) < length w → Grown w (set w (wordOf (spread r)) (bitOr (wordFor w r) (bitsIn (spread r)))) r
+pub grown : (w r : List ℕ) → wordOf (spread r) < length w → Grown w (set w (wordOf (spread r)) (bitOr (wordFor w r) (bitsIn (spread r)))) r true
 grown w r l =
     record {
       long = length-set w k y;
       kept = λ s h. by-eq (wordOf (spread s)) k (same-word s h) (other-word s h);
-      here = eq-eqb _ _ (ap (λ (n : ℕ). bitOr n (bitsIn (spread r))) at ∙ or-again (wordFor w r) (bitsIn (spread r)) ∙ sym at);
+      here = λ e. eq-eqb _ _ (ap (λ (n : ℕ). bitOr n (bitsIn (spread r))) at ∙ or-again (wordFor w r) (bitsIn (spread r)) ∙ sym at);
     }
   where
     k : ℕ
@@ -141,7 +141,7 @@ module _ (x : ℕ → Circuit) (j : ℕ) (w : List ℕ) (m : Seen x w j) (p : Pa
       (λ k l. ap (λ (b : Bool). b && same (partNo x k .reference) (partNo x j .reference)) (sym (and-true (partNo x k .present)) ∙ ap (λ (b : Bool). partNo x k .present && b) (sym here))))
 
   -- it is noted
-  pub seen-more : (v : List ℕ) → Kept w v p → Seen x v (j + 1)
+  pub seen-more : (v : List ℕ) → Grown w v (p .reference) (p .present) → Seen x v (j + 1)
   seen-more v g =
       record {
         full = g .long ∙ m .full;

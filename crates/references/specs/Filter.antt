@@ -1,13 +1,12 @@
 -- A filter of references: two bits of one of 64 words for each.
 use Prim.Native.Nat.{ℕ, _+_, _*_, _/_, _%_, _<_, _^_}
 use mathlib.Core.Path.{_≡_}
-use mathlib.Core.Bool.{Bool, true, false, _&&_}
+use mathlib.Core.Bool.{Bool, true, false}
 use mathlib.Core.List.{List}
 use lib.ListN.{length, getD}
 use lib.Dec.{eqb}
 use lib.Bits.{bitOr}
-use Rattle.octets.specs.Span.{span, number}
-use Rattle.rules.specs.declared.part.Part.{Part}
+use Rattle.octets.specs.Span.{number}
 use Rattle.rules.specs.declared.circuit.Circuit.{Circuit}
 use Rattle.rules.specs.Circuit.{isOf}
 use Rattle.rules.specs.Search.{firstTo, found}
@@ -33,17 +32,11 @@ wordFor w r = getD w (wordOf (spread r)) 0
 abbrev pub already : List ℕ → List ℕ → Bool
 already w r = eqb (bitOr (wordFor w r) (bitsIn (spread r))) (wordFor w r)
 
--- bits that were set stay set, and those of r are
-pub record Grown (w v r : List ℕ) : Type 0 where
+-- bits that were set stay set, and if a part is present, those of its reference r are
+pub record Grown (w v r : List ℕ) (present : Bool) : Type 0 where
   pub long : length v ≡ length w
   pub kept : (s : List ℕ) → already w s ≡ true → already v s ≡ true
-  pub here : already v r ≡ true
-
--- the same of a part: its bits are set if it is present
-pub record Kept (w v : List ℕ) (p : Part) : Type 0 where
-  pub long : length v ≡ length w
-  pub kept : (s : List ℕ) → already w s ≡ true → already v s ≡ true
-  pub here : p .present ≡ true → already v (p .reference) ≡ true
+  pub here : present ≡ true → already v r ≡ true
 
 -- each part before j that is present has both its bits set
 pub record Seen (x : ℕ → Circuit) (w : List ℕ) (j : ℕ) : Type 0 where

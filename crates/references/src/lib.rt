@@ -3,14 +3,14 @@
 use rules::part::Part;
 use rules::search::Found;
 ghost use mathlib.Core.Path.{_≡_};
-ghost use mathlib.Core.Bool.{_&&_, _||_};
+ghost use mathlib.Core.Bool.{true, _&&_, _||_};
 ghost use Prim.Native.Nat.{_+_, _*_, _/_, _<_, _≤_};
 ghost use lib.ListN.{length};
 ghost use Rattle.rules.specs.Circuit.{isOf};
 ghost use Rattle.rules.specs.Search.{firstTo};
 ghost use Rattle.rules.specs.Valid.{partNo, repeated};
 ghost use Rattle.rules.specs.Records.{circuitAt};
-ghost use Rattle.references.specs.Filter.{bitsIn, already, standsTo, Grown, Kept, Seen};
+ghost use Rattle.references.specs.Filter.{bitsIn, already, standsTo, Grown, Seen};
 ghost use Rattle.references.specs.Filter as filter;
 
 fn wide(x: u8) -> u64
@@ -38,7 +38,7 @@ fn bits(v: u64) -> u64
 fn set_bits(w: &mut [u64; 64], r: [u8; 5]) -> bool
     requires { ⌜ length (now w) ≡ 64 ⌝ }
     ensures { λ b. ⌜ b ≡ already (now (w .entry)) r ⌝ }
-    ensures { λ _. ⌜ Grown (now (w .entry)) (now (w .exit)) r ⌝ }
+    ensures { λ _. ⌜ Grown (now (w .entry)) (now (w .exit)) r true ⌝ }
 {
     let v = spread(r);
     let k = (v / 67108864 % 64) as usize;
@@ -52,7 +52,7 @@ fn set_bits(w: &mut [u64; 64], r: [u8; 5]) -> bool
 fn may_repeat(w: &mut [u64; 64], p: Part) -> bool
     requires { ⌜ length (now w) ≡ 64 ⌝ }
     ensures { λ b. ⌜ b ≡ p .present && already (now (w .entry)) (p .reference) ⌝ }
-    ensures { λ _. ⌜ Kept (now (w .entry)) (now (w .exit)) p ⌝ }
+    ensures { λ _. ⌜ Grown (now (w .entry)) (now (w .exit)) (p .reference) (p .present) ⌝ }
 {
     let r = p.reference;
     if p.present { set_bits(w, r) } else { false }

@@ -1,6 +1,6 @@
 -- Of a record in order no reason applies.
 use Prim.Native.Nat.{ℕ, _+_, _*_, _<_}
-use mathlib.Core.Path.{_≡_, refl, sym, ap, _∙_}
+use mathlib.Core.Path.{_≡_, sym, ap, _∙_}
 use mathlib.Core.Bool.{Bool, true, false, cond, _&&_, _||_, not}
 use mathlib.Core.List.{List, []}
 use native.Mathlib.Omega.{arith}
@@ -11,12 +11,11 @@ use Rattle.octets.specs.Span.{span, zeros}
 use Rattle.octets.proofs.Tests.{and-left, and-right, and-both, by-so}
 use Rattle.octets.proofs.Spans.{agree-first, zeros-agree}
 use Rattle.rules.specs.declared.verdict.Reason.the-variants.{FlagOrLevel, DigitOrPointCode, NotZero, NotAbove}
-use Rattle.rules.specs.declared.verdict.Verdict.{Verdict}
 use Rattle.rules.specs.declared.verdict.Verdict.the-variants.{Valid, Fault}
 use Rattle.rules.specs.Fields.{levelOk, decimal, codeOk}
-use Rattle.rules.specs.Valid.{ifPresent, levelsOk, fieldsOk, pairOk, recordVerdict}
-use Rattle.rules.specs.Records.{partAt, circuitAt, flagsAt, blankPart, blankAt, records}
-use Rattle.validity.specs.Order.{fit, partInOrder, inOrder}
+use Rattle.rules.specs.Valid.{ifPresent, levelsOk, fieldsOk, recordVerdict}
+use Rattle.rules.specs.Records.{partAt, flagsAt, blankPart, blankAt, records}
+use Rattle.validity.specs.Order.{partInOrder, inOrder}
 
 module _ (t : List ℕ) (o w : ℕ) where
   abbrev levels : Bool

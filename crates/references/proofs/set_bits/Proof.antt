@@ -1,6 +1,7 @@
 -- One word more.
 use Prim.Native.Nat.{ℕ}
-use mathlib.Core.Path.{_≡_, sym, ap, _∙_, subst}
+use mathlib.Core.Path.{sym, ap, _∙_, subst}
+use mathlib.Core.Bool.{true}
 use mathlib.Core.List.{List}
 use native.Mathlib.Omega.{arith}
 use lib.ListN.{getD, set}
@@ -20,7 +21,7 @@ returns c =
     let s = c .before .before .spread .ensures in
     let b = c .bits .ensures ∙ ap bitsIn s in (
       (λ i. eqb (bitOr (getD w (wordOf (s i)) 0) (b i)) (getD w (wordOf (s i)) 0)),
-      subst (λ (v : List ℕ). Grown w v (a .r)) (sym (λ i. set w (wordOf (s i)) (bitOr (getD w (wordOf (s i)) 0) (b i)))) (grown w (a .r) (omega arith)),
+      subst (λ (v : List ℕ). Grown w v (a .r) true) (sym (λ i. set w (wordOf (s i)) (bitOr (getD w (wordOf (s i)) 0) (b i)))) (grown w (a .r) (omega arith)),
     )
 
 pub set-bits-spec : {M : Type 1} → statement M

@@ -1,5 +1,5 @@
 -- Four octets as a number, and the fifth.
-use Prim.Native.Nat.{ℕ, _+_, _*_}
+use Prim.Native.Nat.{_+_, _*_}
 use borrow.Author.Needs.{needs}
 use Rattle.references.specs.Filter.{spread}
 use Rattle.references.proofs.spread.Statement.{statement}

@@ -1,5 +1,5 @@
 -- One test after the other.
-use mathlib.Core.Path.{_≡_, ap, _∙_}
+use mathlib.Core.Path.{ap, _∙_}
 use borrow.Author.Needs.{needs}
 use Rattle.octets.proofs.Tests.{both}
 use Rattle.rules.specs.Valid.{pairOk}
