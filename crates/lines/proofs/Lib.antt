@@ -1,0 +1,5 @@
+pub mod Joined
+pub mod Decimals
+pub mod Lengths
+pub mod Parties
+pub mod Lamps

@@ -1,0 +1,30 @@
+-- What lines are made of: letters and decimal numbers, as octets; and where they stand in a buffer.
+use Prim.Native.Nat.{ℕ, zero, suc, _+_, _/_, _%_}
+use Prim.Native.Char.{code}
+use Prim.Native.String.{String, [] as nothing, _∷_ as _then_}
+use mathlib.Core.Path.{_≡_}
+use mathlib.Core.Bool.{cond}
+use mathlib.Core.List.{List, [], _∷_, _++_}
+use lib.ListN.{length}
+use lib.Dec.{ltb}
+use Rattle.octets.specs.Span.{put}
+
+abbrev pub letters : String → List ℕ  -- the letters of a text, an octet each
+letters nothing = []
+letters (c then s) = code c ∷ letters s
+
+abbrev pub digit : ℕ → List ℕ  -- a digit below 10
+digit d = (48 + d) ∷ []
+
+-- n in decimal, the first digit not 0 unless n is; w digits are enough for it
+unfoldable pub decimalIn : ℕ → ℕ → List ℕ
+decimalIn zero n = []
+decimalIn (suc w) n = cond (ltb n 10) (digit n) (decimalIn w (n / 10) ++ digit (n % 10))
+
+abbrev pub decimal : ℕ → List ℕ  -- any number of 64 bits
+decimal n = decimalIn 20 n
+
+-- the buffer is as it was but for the text from place at on, and what does not fit is left out; r is the place behind the text
+pub record Written (before : List ℕ) (at : ℕ) (text after : List ℕ) (r : ℕ) : Type 0 where
+  pub content : after ≡ put before at text
+  pub end : r ≡ at + length text

@@ -1,0 +1,36 @@
+// Letters and decimal numbers, written from a place on; the place behind them comes back.
+ghost use mathlib.Core.Path.{_≡_};
+ghost use Prim.Native.Nat.{_+_, _≤_};
+ghost use lib.ListN.{length, set};
+ghost use Rattle.lines.specs.Text.{letters, decimal, Written};
+
+// One letter, where it has room.
+pub fn letter(out: &mut [u8], at: usize, c: u8)
+    ensures { λ _. ⌜ now (out .exit) ≡ set (now (out .entry)) at c ⌝ }
+{
+    if at < out.len() {
+        out[at] = c;
+    }
+}
+
+pub fn put(out: &mut [u8], at: usize, text: &[u8]) -> usize
+    requires { ⌜ at + length (now text) ≤ 1000 ⌝ }
+    ensures { λ r. ⌜ Written (now (out .entry)) at (now (text .entry)) (now (out .exit)) r ⌝ }
+{
+    let mut k = 0;
+    while k < text.len() {
+        letter(out, at + k, text[k]);
+        k += 1;
+    }
+    at + k
+}
+
+pub fn number(out: &mut [u8], at: usize, n: u64) -> usize
+    requires { ⌜ at ≤ 900 ⌝ }
+    ensures { λ r. ⌜ Written (now (out .entry)) at (decimal n) (now (out .exit)) r ⌝ }
+    ensures { λ r. ⌜ r ≤ at + 20 ⌝ }
+{
+    let mut digits = [0u8; 20];
+    let k = io::decimal(n, &mut digits);
+    put(out, at, &digits[..k])
+}
