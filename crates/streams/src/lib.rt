@@ -1,0 +1,108 @@
+// Where the programs' octets come from and go to: the table file, standard input, standard output.
+ghost use Prim.Native.Nat.{_≤_};
+ghost use lib.ListN.{length};
+ghost use Rattle.streams.specs.Table.{Checked};
+
+// The octets that were read, and whether a read failed.
+pub struct Taken {
+    pub octets: usize,
+    pub failed: bool,
+}
+
+// Reads until the buffer is full, the input ends or a read fails; so a pipe's small pieces make one whole.
+pub fn fill(file: i32, buffer: &mut [u8]) -> Taken
+    ensures { λ r. ⌜ r .octets ≤ length (now (buffer .exit)) ⌝ }
+{
+    let mut at = 0;
+    while at < buffer.len() {
+        let got = libc::read(file, &mut buffer[at..]);
+        if got < 0 {
+            return Taken {
+                octets: at,
+                failed: true,
+            };
+        }
+        let n = io::count(got, &buffer[at..]);
+        if n == 0 {
+            return Taken {
+                octets: at,
+                failed: false,
+            };
+        }
+        at += n;
+    }
+    Taken {
+        octets: at,
+        failed: false,
+    }
+}
+
+// Writes all of a text to standard output, or says on standard error why not.
+pub fn write(text: &[u8]) -> bool {
+    let done = io::write_all(libc::STDOUT_FILENO, text);
+    if !done {
+        os::fail(b"standard output");
+    }
+    done
+}
+
+// The octets of the table file; failed where it cannot be opened or read.
+fn file(buffer: &mut [u8]) -> Taken
+    ensures { λ r. ⌜ r .octets ≤ length (now (buffer .exit)) ⌝ }
+{
+    let table = os::open_read(b"circuits.bin");
+    if table < 0 {
+        return Taken {
+            octets: 0,
+            failed: true,
+        };
+    }
+    let taken = fill(table, buffer);
+    libc::close(table);
+    taken
+}
+
+fn no_table() {
+    let mut text = [0u8; 64];
+    let n = lines::event::no_table(&mut text);
+    write(&text[..n]);
+}
+
+fn bad_table(number: u8) {
+    let mut text = [0u8; 64];
+    let n = lines::event::bad_table(&mut text, number);
+    write(&text[..n]);
+}
+
+// The table from its file, and its length. Where there is none, or the check refuses it, the only line says so, and the length is 0.
+pub fn table(buffer: &mut [u8]) -> usize
+    ensures { λ r. ⌜ Checked (now (buffer .exit)) r ⌝ }
+{
+    let taken = file(buffer);
+    let n = taken.octets;
+    if taken.failed {
+        no_table();
+        return 0;
+    }
+    let number = validity::check(&buffer[..n]);
+    if number != 0 {
+        bad_table(number);
+        return 0;
+    }
+    n
+}
+
+// Behind the last whole event: a line where octets were left over; where a read failed, why, on standard error.
+pub fn ended(taken: Taken) {
+    let n = taken.octets % 16;
+    let mut text = [0u8; 64];
+    if taken.failed {
+        os::fail(b"standard input");
+        return;
+    }
+    if n == 0 {
+        return;
+    }
+    let length = lines::event::short(&mut text, n as u64);
+    write(&text[..length]);
+}
