@@ -1,0 +1,23 @@
+-- The map that is drawn is the table's.
+use mathlib.Core.Path.{ap}
+use Rattle.lamps.specs.declared.Lamps.{Lamps}
+use Rattle.lines.specs.Panel.{drawing}
+use Rattle.lines.proofs.Joined.{said}
+use Rattle.panel.specs.Drawn.{panel}
+use borrow.Author.Needs.{needs}
+use Rattle.panel.proofs.drawn.Statement.{statement}
+use Rattle.panel.proofs.drawn.Tie as tie
+
+returns : tie.Need-returns
+unfolding panel
+returns c =
+    (said (ap (λ (m : Lamps). drawing (m .words) (m .lit)) (c .before .before .before .before .before .map .ensures)) (c .before .before .draw .ensures .0), c .before .before .draw .ensures .1)
+
+pub drawn-spec : {M : Type 1} → statement M
+drawn-spec =
+    tie.close
+    (tie.spec
+    (λ c κs. search needs)
+    (λ c κs. search needs)
+    (λ c. search needs)
+    returns)
