@@ -1,10 +1,8 @@
 // The line of an event, and the lines that stand alone.
 use crate::text;
-ghost use mathlib.Core.Path.{_≡_};
 ghost use mathlib.Core.List.{_++_};
 ghost use Prim.Native.Nat.{_+_, _≤_};
-ghost use lib.ListN.{length, getD};
-ghost use Rattle.octets.specs.Span.{put};
+ghost use lib.ListN.{length};
 ghost use Rattle.lines.specs.Text.{letters, decimal, Written};
 ghost use Rattle.lines.specs.Event as rule;
 
@@ -57,8 +55,7 @@ fn party(out: &mut [u8], at: usize, a: [u8; 16], o: usize) -> usize
 
 // The line of event n, by the octets of its answer.
 pub fn line(out: &mut [u8], n: u64, a: [u8; 16]) -> usize
-    ensures { λ _. ⌜ now (out .exit) ≡ put (now (out .entry)) 0 (rule.line n a) ⌝ }
-    ensures { λ r. ⌜ r ≡ length (rule.line n a) ⌝ }
+    ensures { λ r. ⌜ Written (now (out .entry)) 0 (rule.line n a) (now (out .exit)) r ⌝ }
     ensures { λ r. ⌜ r ≤ 65 ⌝ }
 {
     let event = text::number(out, 0, n);

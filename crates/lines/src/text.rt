@@ -2,7 +2,7 @@
 ghost use mathlib.Core.Path.{_≡_};
 ghost use Prim.Native.Nat.{_+_, _≤_};
 ghost use lib.ListN.{length, set};
-ghost use Rattle.lines.specs.Text.{letters, decimal, Written};
+ghost use Rattle.lines.specs.Text.{decimal, Written};
 
 // One letter, where it has room.
 pub fn letter(out: &mut [u8], at: usize, c: u8)

@@ -1,9 +1,8 @@
 -- The fields one behind the other, and how long they are at most.
-use mathlib.Core.Path.{ap, _∙_}
-use native.Mathlib.Nat.{zero-add}
+use mathlib.Core.Path.{ap}
 use Prim.Native.Nat.{ℕ}
 use native.Mathlib.Omega.{arith}
-use lib.ListN.{length, getD}
+use lib.ListN.{getD}
 use mir.Syntax.{w8}
 use mir.Val.{Fits}
 use Rattle.lines.specs.Event.{field, line}
@@ -25,8 +24,7 @@ returns c =
     let six = joined (joined (joined three place) (c .before .before .before .before .before .before .before .before .before .before .before .party .ensures .0)) (c .before .before .before .before .before .before .before .party2 .ensures .0) in
     let whole = joined six (c .before .before .put .ensures) in
     let octet : (i : ℕ) → Fits w8 (getD (a .t3) i 0) = λ i. search needs in
-    let end = whole .end ∙ zero-add (length (line (a .n) (a .t3))) in
-    (whole .content, (end, omega (arith, line-length (a .t3) (λ i. octet i .fits) (a .n) (omega arith))))
+    (whole, omega (arith, whole .end, line-length (a .t3) (λ i. octet i .fits) (a .n) (omega arith)))
 
 pub line-spec : {M : Type 1} → statement M
 line-spec =
