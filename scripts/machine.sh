@@ -54,3 +54,16 @@ library() {
     log=$(cd "$repository" && "$rt" staticlib naustvri 2>&1) || { printf '%s\n' "$log" >&2; exit 1; }
     printf '%s\n' "$repository/target/staticlib/libnaustvri.a"
 }
+
+# build_programs: proves and links decide and panel, in the folder $bin.
+build_programs() {
+    log=$(cd "$repository" && "$rt" check decide panel 2>&1) || { printf '%s\n' "$log" >&2; exit 1; }
+    bin=$repository/target/bin
+}
+
+# run_linked PROGRAM ARGUMENTS..: a program that rt has linked, under the toolchain's loader and C library, and its emulator where it has one.
+run_linked() {
+    emulator=$toolchain/bin/qemu-x86_64
+    [ -x "$emulator" ] || emulator=
+    ${emulator:+"$emulator"} "$toolchain/lib/ld-linux-x86-64.so.2" --library-path "$toolchain/lib" "$@"
+}

@@ -1,6 +1,6 @@
 #!/bin/sh
-# run.sh                        the outside tests of the gate: the example, the handbook, the Rust interface, then the library against the
-#                               independent implementation, always the same cases
+# run.sh                        the outside tests of the gate: the example, the handbook, the Rust interface, the programs, then the library
+#                               against the independent implementation, always the same cases
 # run.sh seconds COUNT [SEED]   other cases for so many seconds, with a line now and then and the seed of any difference
 # run.sh rounds COUNT SEED      so many rounds from a seed; one round where a difference is to come again
 . "$(dirname "$0")/build.sh"
@@ -13,6 +13,7 @@ if [ $# = 0 ]; then
     "$repository/tests/example.sh" "$archive"
     "$repository/tests/handbook.sh" "$archive"
     "$repository/tests/rust.sh" "$archive"
+    "$repository/tests/program.sh"
 fi
 build_server "$out/serve" "$archive"
 [ "$unit" = rounds ] || echo "outside: from seed $seed"
