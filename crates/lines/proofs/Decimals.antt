@@ -1,5 +1,5 @@
--- Decimal numbers: the fewest digits that hold a number are its decimal, and how many they are.
-use Prim.Native.Nat.{ℕ, zero, suc, _+_, _-_, _/_, _%_, _^_, _≤_, _<_}
+-- Decimal numbers: the fewest digits that hold a number are its decimal, how many they are, and that they say it.
+use Prim.Native.Nat.{ℕ, zero, suc, _+_, _-_, _*_, _/_, _%_, _^_, _≤_, _<_}
 use mathlib.Core.Path.{_≡_, sym, ap, ap₂, _∙_}
 use mathlib.Core.Bool.{Bool, cond}
 use mathlib.Core.List.{List, [], _∷_, _++_}
@@ -10,7 +10,7 @@ use lib.ListN.{length, length-append}
 use borrow.Author.Tests.{lt-ltb, le-ltb}
 use Rattle.io.specs.Digits.{digits, glyph, Fewest}
 use Rattle.octets.proofs.Tests.{by-test}
-use Rattle.lines.specs.Text.{digit, decimalIn}
+use Rattle.lines.specs.Text.{digit, decimalIn, says, ReadBack}
 
 one-at-least : (k : ℕ) → 1 ≤ 10 ^ k
 one-at-least zero = omega arith
@@ -46,3 +46,20 @@ decimal-length (suc w) n zero h = let small : n < 10 = omega (arith, pow-succ' 1
 decimal-length (suc w) n (suc j) h =
     by-test (λ (l : List ℕ). length l ≤ suc (suc j)) (ltb n 10) (digit n) (decimalIn w (n / 10) ++ digit (n % 10)) (λ t. omega arith)
     (λ t. omega (arith, length-append (decimalIn w (n / 10)) (digit (n % 10)), decimal-length w (n / 10) j (omega (arith, pow-succ' 10 (suc j)))))
+
+-- one digit more
+says-more : (m : ℕ) (l : List ℕ) (d : ℕ) → says m (l ++ digit d) ≡ 10 * says m l + d
+says-more m [] d = omega arith
+says-more m (x ∷ l) d = says-more (10 * m + (x - 48)) l d
+
+says-decimal : (w n : ℕ) → n < 10 ^ suc w → says 0 (decimalIn (suc w) n) ≡ n
+unfolding decimalIn
+says-decimal zero n h =
+    let small : n < 10 = omega (arith, pow-succ' 10 0) in
+    ap (λ (b : Bool). says 0 (cond b (digit n) (digit (n % 10)))) (lt-ltb n 10 small) ∙ omega arith
+says-decimal (suc w) n h =
+    by-test (λ (l : List ℕ). says 0 l ≡ n) (ltb n 10) (digit n) (decimalIn (suc w) (n / 10) ++ digit (n % 10)) (λ t. omega arith)
+    (λ t. says-more 0 (decimalIn (suc w) (n / 10)) (n % 10) ∙ omega (arith, says-decimal w (n / 10) (omega (arith, pow-succ' 10 (suc w)))))
+
+pub read-back : ReadBack
+read-back = says-decimal 19

@@ -67,6 +67,7 @@ pub fn line(out: &mut [u8], n: u64, a: [u8; 16]) -> usize
     text::put(out, reservation, b"\n")
 }
 
+// Above the lines of the events.
 pub fn header(out: &mut [u8]) -> usize
     ensures { λ r. ⌜ Written (now (out .entry)) 0 rule.header (now (out .exit)) r ⌝ }
 {
@@ -84,6 +85,7 @@ fn numbered(out: &mut [u8], word: &[u8], n: u64) -> usize
     text::put(out, behind, b"\n")
 }
 
+// Behind them, where n octets were left over.
 pub fn short(out: &mut [u8], n: u64) -> usize
     ensures { λ r. ⌜ Written (now (out .entry)) 0 (rule.short n) (now (out .exit)) r ⌝ }
     ensures { λ r. ⌜ r ≤ 41 ⌝ }
@@ -91,12 +93,14 @@ pub fn short(out: &mut [u8], n: u64) -> usize
     numbered(out, b"short ", n)
 }
 
+// The only line, where there is no table file.
 pub fn no_table(out: &mut [u8]) -> usize
     ensures { λ r. ⌜ Written (now (out .entry)) 0 rule.noTable (now (out .exit)) r ⌝ }
 {
     text::put(out, 0, b"no table\n")
 }
 
+// The only line, where the check refuses the table by this number.
 pub fn bad_table(out: &mut [u8], number: u8) -> usize
     ensures { λ r. ⌜ Written (now (out .entry)) 0 (rule.badTable number) (now (out .exit)) r ⌝ }
     ensures { λ r. ⌜ r ≤ 41 ⌝ }

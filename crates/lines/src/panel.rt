@@ -14,6 +14,7 @@ fn lamp(w: u64) -> u8
     if w % 2 == 1 { b'*' } else { b'.' }
 }
 
+// The 64 lamps of a word, from its lowest bit on.
 fn row(out: &mut [u8], at: usize, w: u64) -> usize
     requires { ⌜ at ≤ 800 ⌝ }
     ensures { λ r. ⌜ Written (now (out .entry)) at (rule.row w) (now (out .exit)) r ⌝ }

@@ -1,4 +1,5 @@
-// Letters and decimal numbers, written from a place on; the place behind them comes back.
+// Letters and decimal numbers, written from a place on; the place behind them comes back. Lines are far shorter than 1,000 octets, so
+// that no place wraps.
 ghost use mathlib.Core.Path.{_≡_};
 ghost use Prim.Native.Nat.{_+_, _≤_};
 ghost use lib.ListN.{length, set};
@@ -13,6 +14,7 @@ pub fn letter(out: &mut [u8], at: usize, c: u8)
     }
 }
 
+// Letters one behind the other.
 pub fn put(out: &mut [u8], at: usize, text: &[u8]) -> usize
     requires { ⌜ at + length (now text) ≤ 1000 ⌝ }
     ensures { λ r. ⌜ Written (now (out .entry)) at (now (text .entry)) (now (out .exit)) r ⌝ }
@@ -25,6 +27,7 @@ pub fn put(out: &mut [u8], at: usize, text: &[u8]) -> usize
     at + k
 }
 
+// A number, in as few digits as hold it.
 pub fn number(out: &mut [u8], at: usize, n: u64) -> usize
     requires { ⌜ at ≤ 900 ⌝ }
     ensures { λ r. ⌜ Written (now (out .entry)) at (decimal n) (now (out .exit)) r ⌝ }
