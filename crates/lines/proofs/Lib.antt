@@ -3,3 +3,4 @@ pub mod Decimals
 pub mod Lengths
 pub mod Parties
 pub mod Lamps
+pub mod Rows

@@ -30,16 +30,27 @@ fn row(out: &mut [u8], at: usize, w: u64) -> usize
     text::put(out, at + i, b"\n")
 }
 
+// The rows of the words, one below the other.
+fn rows(out: &mut [u8], words: [u64; 4]) -> usize
+    ensures { λ r. ⌜ Written (now (out .entry)) 0 (rule.rowsTo words 4) (now (out .exit)) r ⌝ }
+    ensures { λ r. ⌜ r ≤ 260 ⌝ }
+{
+    let mut at = 0;
+    let mut j = 0;
+    while j < 4 {
+        at = row(out, at, words[j]);
+        j += 1;
+    }
+    at
+}
+
 // Four rows of lamps, and the number lit.
 pub fn draw(out: &mut [u8], words: [u64; 4], lit: u16) -> usize
     ensures { λ r. ⌜ Written (now (out .entry)) 0 (rule.drawing words lit) (now (out .exit)) r ⌝ }
     ensures { λ r. ⌜ r ≤ 285 ⌝ }
 {
-    let first = row(out, 0, words[0]);
-    let second = row(out, first, words[1]);
-    let third = row(out, second, words[2]);
-    let fourth = row(out, third, words[3]);
-    let word = text::put(out, fourth, b"lit ");
+    let below = rows(out, words);
+    let word = text::put(out, below, b"lit ");
     let number = text::number(out, word, lit as u64);
     text::put(out, number, b"\n")
 }
