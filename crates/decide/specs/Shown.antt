@@ -1,8 +1,8 @@
 -- 01, "The program and its whole output": its nine events over its table of 64 zero octets give its listing, letter for letter.
 use mathlib.Core.Path.{_≡_, refl}
-use mathlib.Core.List.{List, _++_, flatten}
+use mathlib.Core.List.{flatten}
 use lib.ListN.{replicate}
-use Rattle.rules.specs.Fields.{routine, decimal, parameterOk, codeOk}
+use Rattle.rules.specs.Fields.{decimal, parameterOk, codeOk}
 use Rattle.rules.specs.Circuit.{takeable, worth, rank}
 use Rattle.rules.specs.Choice.{heldBy, reservedBy, choice}
 use Rattle.rules.specs.Event.{wellFormed}
@@ -10,14 +10,15 @@ use Rattle.rules.specs.Decision.{onReservation, setUp, lookAhead, release, canc
 use Rattle.rules.specs.Answer.{answerOf}
 use Rattle.rules.specs.Valid.{levelsOk, fieldsOk, pairOk, repeated, recordVerdict, verdict, valid}
 use Rattle.rules.specs.Run.{decide, effect, after, answer, answered}
-use Rattle.rules.specs.Records.{putCircuit, flagsAt, blankAt, records, tableLength, listLength}
+use Rattle.rules.specs.Records.{putCircuit, flagsAt, blankAt, records, checkNumber, tableLength}
 use Rattle.rules.specs.Vectors.{event, setsUp, releases, looksAhead, ticks, immediate, priority}
 use Rattle.rules.specs.Vectors as paper
-use Rattle.route.specs.Entries.{eventsIn, listLengths, listAnswers}
+use Rattle.route.specs.Entries.{eventsIn}
 use Rattle.lines.specs.Text.{letters, decimalIn}
-use Rattle.lines.specs.Event.{header, party, line}
+use Rattle.lines.specs.Event.{party, line}
 use Rattle.decide.specs.Listing.{listing}
+use Rattle.decide.specs.Output.{answersTo, output}
 
-pub shown : header ++ listing 0 (listAnswers (replicate 64 0) (flatten paper.listing) (replicate 144 0)) ≡ letters "event answer cause number call reservation\n1 1 0 0 - -\n2 3 0 1 - -\n3 2 0 0 1/1 -\n4 31 46 - - -\n5 27 0 - - -\n6 7 0 0 - -\n7 7 0 1 - -\n8 1 0 1 - -\n9 30 34 - - -\n"
-unfolding flatten immediate priority event setsUp releases looksAhead ticks paper.listing answer answered after effect decide decision setUp lookAhead release cancel onReservation choice heldBy reservedBy rank worth takeable answerOf valid verdict recordVerdict repeated levelsOk fieldsOk pairOk decimal codeOk wellFormed parameterOk records putCircuit flagsAt blankAt tableLength listLength eventsIn listLengths listAnswers decimalIn party line listing
+pub shown : output (replicate 64 0) (flatten paper.listing) ≡ letters "event answer cause number call reservation\n1 1 0 0 - -\n2 3 0 1 - -\n3 2 0 0 1/1 -\n4 31 46 - - -\n5 27 0 - - -\n6 7 0 0 - -\n7 7 0 1 - -\n8 1 0 1 - -\n9 30 34 - - -\n"
+unfolding flatten immediate priority event setsUp releases looksAhead ticks paper.listing answer answered after effect decide decision setUp lookAhead release cancel onReservation choice heldBy reservedBy rank worth takeable answerOf valid verdict recordVerdict repeated levelsOk fieldsOk pairOk decimal codeOk wellFormed parameterOk records putCircuit flagsAt blankAt checkNumber tableLength eventsIn answersTo output decimalIn party line listing
 shown = refl

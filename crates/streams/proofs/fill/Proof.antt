@@ -1,7 +1,6 @@
 -- The octets read so far are within the buffer, which stays as long as it was.
 use Prim.Native.Nat.{_≤_, _-_}
 use mathlib.Core.Path.{_≡_}
-use native.Mathlib.Omega.{arith}
 use lib.ListN.{length}
 use borrow.Author.Needs.{needs}
 use Rattle.streams.proofs.fill.Statement.{statement}

@@ -5,13 +5,12 @@ use denote.Ref.{now}
 use Rattle.octets.proofs.Spans.{length-put}
 use Rattle.lines.specs.Event.{line}
 use Rattle.lines.proofs.Joined.{joined, said}
-use Prim.Native.Nat.{ℕ, suc, _+_, _*_, _-_, _/_, _≤_}
+use Prim.Native.Nat.{suc, _+_, _*_, _-_, _/_, _≤_}
 use mathlib.Core.Path.{_≡_, ap, refl, sym, _∙_}
 use native.Mathlib.Omega.{arith}
 use lib.ListN.{length}
 use Rattle.lines.specs.Text.{Written}
 use Rattle.decide.specs.Listing.{listingTo, listing}
-use borrow.Author.Needs.{needs}
 use Rattle.decide.proofs.listing.listing.Statement.{statement}
 use Rattle.decide.proofs.listing.listing.Tie as tie
 

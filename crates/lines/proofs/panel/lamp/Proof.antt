@@ -4,7 +4,6 @@ use mathlib.Core.Bool.{Bool}
 use Prim.Native.Nat.{_%_}
 use lib.ListN.{getD}
 use borrow.Author.Tests.{eq-eqb, ne-eqb}
-use borrow.Author.Needs.{needs}
 use Rattle.lines.specs.Panel.{lamp}
 use Rattle.lines.proofs.panel.lamp.Statement.{statement}
 use Rattle.lines.proofs.panel.lamp.Tie as tie

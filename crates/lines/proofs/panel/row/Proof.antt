@@ -12,7 +12,6 @@ use Rattle.lines.specs.Text.{letters, Written}
 use Rattle.lines.specs.Panel.{row, lampsTo}
 use Rattle.lines.proofs.Joined.{joined, said}
 use Rattle.lines.proofs.Lamps.{Shows, shows-next, one-more}
-use borrow.Author.Needs.{needs}
 use Rattle.lines.proofs.panel.row.Statement.{statement}
 use Rattle.lines.proofs.panel.row.Tie as tie
 

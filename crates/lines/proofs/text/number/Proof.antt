@@ -1,5 +1,5 @@
 -- The fewest digits are the decimal.
-use Prim.Native.Nat.{_<_, _≤_, _^_}
+use Prim.Native.Nat.{_<_, _^_}
 use mathlib.Core.Path.{_∙_, ap}
 use native.Mathlib.Omega.{arith}
 use lib.ListN.{length}

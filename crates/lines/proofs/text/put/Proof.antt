@@ -8,7 +8,6 @@ use lib.ListN.{getD, length, set}
 use denote.Ref.{now}
 use Rattle.octets.specs.Span.{putTo}
 use Rattle.octets.proofs.Spans.{length-putTo}
-use borrow.Author.Needs.{needs}
 use Rattle.lines.proofs.text.put.Statement.{statement}
 use Rattle.lines.proofs.text.put.Tie as tie
 
