@@ -1,7 +1,4 @@
 // One event applied to a table, and a list of events: what is decided, what is answered, what becomes of the table.
-pub mod answer;
-pub mod effect;
-
 ghost use mathlib.Core.Path.{_≡_};
 ghost use mathlib.Core.Bool.{_&&_};
 ghost use mathlib.Core.List.{flatten};
