@@ -8,6 +8,7 @@ unit=${1:-rounds} count=${2:-200} seed=${3:-1}
 [ "$unit" = rounds ] || seed=${3:-$(date +%s)}
 need_compiler
 build_driver
+[ $# != 0 ] || build_programs naustvri
 archive=$(library)
 if [ $# = 0 ]; then
     "$repository/tests/example.sh" "$archive"
