@@ -101,4 +101,16 @@ run_linked "$bin/decide" <events >/dev/full 2>said
 [ "$(cat said)" = 'standard output: No space left on device' ] || die "a write that fails: $(cat said)"
 cases=$((cases + 1))
 
+# The handbook's evening and morning, and its panel of 30 circuits of which 0, 1 and 4 are held.
+octet() { printf '%b' "\\0$(printf %o "$1")"; }
+held() { octet 1 && octet 4 && zeros 5 && octet "$1" && zeros 24; }
+handbook=$repository/docs/HANDBOOK.md
+for digits in $(sed -n '/^## An evening/,/^## A reservation/s/^    event  \(\([0-9a-f]* \)*[0-9a-f]*\)   .*/\1/p' "$handbook"); do octet "0x$digits"; done >events
+sed -n '/^    event answer cause/,/^$/s/^    //p' "$handbook" >wanted
+run_linked "$bin/decide" <events | diff wanted -
+{ held 1 && held 2 && zeros 64 && held 3 && zeros 800; } >circuits.bin
+sed -n '/^    [.*]*$/,/^    lit/s/^    //p' "$handbook" >wanted
+run_linked "$bin/panel" </dev/null | diff wanted -
+cases=$((cases + 2))
+
 echo "program: decide and panel write what they should in $cases cases"
