@@ -1,15 +1,18 @@
 # make test: everything that the gate asks. Its last line is 'N passed, 0 failed'.
+# make edits: every wrong edit, the gate's and more.
 # make demo: the lamp panel and the program on 01's nine events, on one screen.
 # make bench: the library's instructions beside those of plain C, in tables.
 # make soak [SECONDS=600] [SEED=1]: the outside tests on ever other cases, with the seed of any difference.
 # make planted: errors planted in a stand-in for the library, each of which the outside tests find.
-.PHONY: test demo bench soak planted
+.PHONY: test edits demo bench soak planted
 
 test:
 	@command -v rt >/dev/null || { echo "rt, the command of the Rattle toolchain, is not on the PATH" >&2; exit 1; }
 	rt fmt --check
-	@tests/run.sh
-	rt ci
+	@scripts/gate.sh
+
+edits:
+	@scripts/edits.sh
 
 demo:
 	@scripts/demo.sh
