@@ -6,7 +6,8 @@
  * Overlap: a buffer that a function writes (any pointer that is not const) shares no octet with another buffer of the same call,
  * and no other thread uses it meanwhile. Nothing tests this. A pointer is never null, also where its length is 0.
  *
- * All numbers in circuits, events and answers are little-endian. */
+ * Clocks and places in circuits, events and answers have their low octet first. Precedence, domain and reference stand in them as in
+ * their messages: write them by naustvri_write_precedence and naustvri_write_reference. */
 #ifndef NAUSTVRI_H
 #define NAUSTVRI_H
 
@@ -34,7 +35,7 @@ enum naustvri_number {
     NAUSTVRI_LOOK_AHEAD_BY_ROUTINE = 24,
     NAUSTVRI_ALREADY_PRESENT = 25,         /* set-up by a holder; look-ahead by a holder or a reserver */
     NAUSTVRI_RESERVATION_DIFFERS = 26,     /* set-up whose level or domain is not its reservation's */
-    NAUSTVRI_HOLDER_NOT_LOWER = 28,        /* set-up on its reservation, above a holder that is not strictly lower */
+    NAUSTVRI_HOLDER_NOT_LOWER = 28,        /* set-up on its reservation, holder there not strictly lower in the same domain */
     NAUSTVRI_NOT_PRESENT = 27,             /* release without a holder, cancel without a reservation */
     NAUSTVRI_NO_CIRCUIT_ROUTINE = 30,      /* set-up by ROUTINE, no circuit */
     NAUSTVRI_NO_CIRCUIT_PRECEDENCE = 31,   /* set-up by another level, no circuit */
@@ -115,7 +116,7 @@ enum naustvri_answer_offset {
     NAUSTVRI_ANSWER_NUMBER = 0,
     NAUSTVRI_ANSWER_CAUSE = 1,
     NAUSTVRI_ANSWER_PLACE = 2,                     /* 2 octets: the circuit; of a clock event how many reservations it removed */
-    NAUSTVRI_ANSWER_CALL_LOST = 4,                 /* a holder lost its circuit */
+    NAUSTVRI_ANSWER_CALL_LOST = 4,                 /* a holder lost its circuit: filled, as all below, at 2 and 4 alone */
     NAUSTVRI_ANSWER_LOST_CALL = 5,                 /* its call reference */
     NAUSTVRI_ANSWER_RESERVATION_LOST = 10,         /* a reservation was lost */
     NAUSTVRI_ANSWER_LOST_RESERVATION = 11          /* its call reference */

@@ -3,7 +3,8 @@
 //! The eight functions of `include/naustvri.h` over slices. Each takes any octets of any length, ends, and allocates nothing. What C has to
 //! keep by itself, that a buffer which is written overlaps no other and that no other thread uses it meanwhile, a borrow keeps here.
 //!
-//! Records stay octets; the constants say where their fields stand. All numbers in them are little-endian.
+//! Records stay octets; the constants say where their fields stand. Clocks and places have their low octet first; precedence, domain and
+//! reference stand as in their messages.
 
 mod constants;
 mod raw;

@@ -19,3 +19,4 @@ pub mod Holders
 pub mod Alone
 pub mod Checked
 pub mod Filled
+pub mod Carried

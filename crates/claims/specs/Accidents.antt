@@ -72,7 +72,7 @@ Stays y z = (z .reservation ≡ y .reservation) × (z .clock ≡ y .clock)
 abbrev pub NoReservationLost : Type 0
 NoReservationLost = StaysOrGoes (λ y. y .reservation) Stays Goes
 
--- and a clock event that was taken removes each reservation that is old, and no other
+-- and by the history, which by HistoryTells is the table's own, a clock event that was taken removes each reservation that is old, and no other
 abbrev pub OldOnesGo : Type 0
 OldOnesGo =
     (p : Turn) (c : ℕ) (y : Circuit) → answerNumber (p .answer) ≡ 7 → y .reservation .present ≡ true

@@ -1,7 +1,7 @@
 -- What holds of every table, one that is not valid too: a list is its events one by one, validity is kept, and a refusal changes nothing.
-use Prim.Native.Nat.{ℕ, _≤_, _<_}
+use Prim.Native.Nat.{ℕ, _%_, _≤_, _<_}
 use mathlib.Core.Path.{_≡_}
-use mathlib.Core.Logic.{_≢_}
+use mathlib.Core.Logic.{_↔_, _≢_}
 use mathlib.Core.List.{List, [], _∷_}
 use lib.ListN.{length, replicate}
 use Rattle.octets.specs.Span.{span}
@@ -22,6 +22,19 @@ EventByEvent t (p ∷ ps) u =
 -- "a list is its events one by one, and lists one after another are one long run"
 abbrev pub OneByOne : Type 0
 OneByOne = (t : List ℕ) (lists : List EventList) → EventByEvent t (past t lists) (tableAfter t lists)
+
+-- 1 to 256 whole circuits, 0 to 4,096 whole events, and a place of 16 octets for the answer to each
+pub record RightLengths (t es places : List ℕ) : Type 0 where
+  pub circuits : length t % 32 ≡ 0
+  pub some : 32 ≤ length t
+  pub most : length t ≤ 8192
+  pub events : length es % 16 ≡ 0
+  pub many : length es ≤ 65536
+  pub answers : length places ≡ length es
+
+-- "a list has 0 to 4,096 events and exactly one answer place for each (else 20)": it is carried out exactly at right lengths
+abbrev pub CarriedOut : Type 0
+CarriedOut = (t es places : List ℕ) → (listNumber t es places ≡ 0) ↔ RightLengths t es places
 
 -- a list of one event leaves what the event entry leaves; so demand 3 is the event entry's too
 abbrev pub ListOfOne : Type 0
@@ -54,7 +67,7 @@ RefusalAnswers =
     (t e place : List ℕ) → 20 < eventNumber t e place
     → eventAnswer t e place ≡ eventNumber t e place ∷ causeOf (eventNumber t e place) ∷ 255 ∷ 255 ∷ replicate 12 0
 
--- and what the history shows stays
+-- and what the history shows stays, whatever circuit it showed; by HistoryTells the history is the table's own
 abbrev pub RefusalKeepsHistory : Type 0
 RefusalKeepsHistory = (p : Turn) (c : ℕ) (y : Circuit) → 20 ≤ answerNumber (p .answer) → heard p c y ≡ y
 
