@@ -5,39 +5,35 @@ pub fn put(text: &[u8]) {
     io::write_all(STDOUT_FILENO, text);
 }
 
-// A number, in a column of eleven.
-pub fn number(n: u64) {
-    let mut text = [0u8; 20];
-    let k = io::decimal(n, &mut text);
-    put(&text[..k]);
-    put_from(b"           ", k);
+// The first eleven letters.
+fn eleven(text: [u8; 20]) {
+    put(&text[..11]);
 }
 
-fn put_from(text: &[u8], k: usize) {
-    if k <= text.len() {
-        put(&text[k..]);
-    }
+// A number, of ten digits at most, in a column of eleven.
+pub fn number(n: u32) {
+    let mut text = [b' '; 20];
+    io::decimal(n as u64, &mut text);
+    eleven(text);
 }
 
-fn wide(x: u8) -> u64 {
-    x as u64
+// A number and what stands behind it.
+pub fn ended(n: u32, end: &[u8]) {
+    io::print_decimal(STDOUT_FILENO, n as u64);
+    put(end);
 }
 
-// A number that ends its line.
-pub fn last(n: u64) {
-    io::print_decimal(STDOUT_FILENO, n);
-    put(b"\n");
+// A number and a dot.
+fn dotted(n: u8) {
+    ended(n as u32, b".");
 }
 
 // Four numbers, apart by dots, the last in a column of eleven.
 pub fn digits(d: [u8; 4]) {
-    io::print_decimal(STDOUT_FILENO, wide(d[0]));
-    put(b".");
-    io::print_decimal(STDOUT_FILENO, wide(d[1]));
-    put(b".");
-    io::print_decimal(STDOUT_FILENO, wide(d[2]));
-    put(b".");
-    number(wide(d[3]));
+    dotted(d[0]);
+    dotted(d[1]);
+    dotted(d[2]);
+    number(d[3] as u32);
 }
 
 // At most nine octets, in a column of twenty-seven.
@@ -49,10 +45,16 @@ pub fn octets(s: &[u8]) {
     }
 }
 
+// An octet and a space.
+fn hex(n: u8) {
+    io::print_hex(STDOUT_FILENO, n as u64, 2);
+    put(b" ");
+}
+
+// An octet, or spaces where there is none.
 fn octet(s: &[u8], k: usize) {
     if k < s.len() {
-        io::print_hex(STDOUT_FILENO, wide(s[k]), 2);
-        put(b" ");
+        hex(s[k]);
     } else {
         put(b"   ");
     }
