@@ -1,8 +1,14 @@
 // Cells of a table on standard output.
 use libc::STDOUT_FILENO;
+use rules::search::Found;
 
 pub fn put(text: &[u8]) {
     io::write_all(STDOUT_FILENO, text);
+}
+
+// The end of a line.
+pub fn end() {
+    put(b"\n");
 }
 
 // A number, in a column of eight.
@@ -16,5 +22,12 @@ pub fn number(n: u64) {
 fn put_from(text: &[u8], k: usize) {
     if k <= text.len() {
         put(&text[k..]);
+    }
+}
+
+pub fn found(f: Found) {
+    match f {
+        Found::At(i) => number(i as u64),
+        Found::Nothing => put(b"-       "),
     }
 }

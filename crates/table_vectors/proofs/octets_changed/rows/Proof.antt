@@ -1,14 +1,14 @@
--- The loop counts to a hundred and twenty-eight.
+-- An octet a turn.
 use Prim.Native.Nat.{_≤_, _-_}
 use borrow.Author.Needs.{needs}
-use Rattle.table_vectors.proofs.checks.rows.Statement.{statement}
-use Rattle.table_vectors.proofs.checks.rows.Tie as tie
+use Rattle.table_vectors.proofs.octets_changed.rows.Statement.{statement}
+use Rattle.table_vectors.proofs.octets_changed.rows.Tie as tie
 
 abbrev Inv-loop : tie.InvT-loop
-Inv-loop k₀ k = k ≤ 128
+Inv-loop s from t k₀ k = k ≤ 128
 
 abbrev μ-loop : tie.MeasureT-loop
-μ-loop k₀ k = 128 - k
+μ-loop s from t k₀ k = 128 - k
 
 pub rows-spec : {M : Type 1} → statement M
 rows-spec =
@@ -17,6 +17,8 @@ rows-spec =
     Inv-loop
     μ-loop
     (λ c. search needs)
+    (λ c κs. search needs)
+    (λ c κs. search needs)
     (λ c κs. search needs)
     (λ c. search needs)
     (λ c. search needs)
