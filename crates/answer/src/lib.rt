@@ -10,12 +10,11 @@ use rules::part::Part;
 ghost use mathlib.Core.Path.{_≡_};
 ghost use mathlib.Core.Bool.{cond, _||_};
 ghost use Prim.Native.Nat.{_/_, _<_, _≤_};
-ghost use lib.ListN.{length};
 ghost use Rattle.rules.specs.Search.{countTo};
 ghost use Rattle.rules.specs.Circuit.{nobody, overdue};
 ghost use Rattle.rules.specs.Answer.{noLoser, losers, anothers, answerOf};
-ghost use Rattle.rules.specs.Records.{circuitAt};
-ghost use Rattle.decision.specs.Ready.{Ready};
+ghost use Rattle.rules.specs.Records.{circuits, circuitAt};
+ghost use Rattle.rules.specs.Ready.{Ready};
 
 // An absent party.
 fn nobody() -> Part
@@ -98,8 +97,8 @@ fn one(counts: bool) -> u16
 
 // How many reservations are overdue.
 fn removed(t: &[u8], clock: u32) -> u16
-    requires { ⌜ length (now t) / 32 ≤ 256 ⌝ }
-    ensures { λ r. ⌜ r ≡ countTo (λ i. overdue clock (circuitAt (now (t .entry)) i)) (length (now (t .entry)) / 32) ⌝ }
+    requires { ⌜ circuits (now t) ≤ 256 ⌝ }
+    ensures { λ r. ⌜ r ≡ countTo (λ i. overdue clock (circuitAt (now (t .entry)) i)) (circuits (now (t .entry))) ⌝ }
 {
     let n = table::count(t);
     let mut k: u16 = 0;
@@ -113,8 +112,8 @@ fn removed(t: &[u8], clock: u32) -> u16
 
 // The answer to what was decided, before the table is changed.
 pub fn answer(t: &[u8], e: Event, o: Outcome) -> Answer
-    requires { ⌜ (length (now t) / 32 ≤ 256) × Ready (now t) o ⌝ }
-    ensures { λ r. ⌜ r ≡ answerOf (circuitAt (now (t .entry))) (length (now (t .entry)) / 32) e o ⌝ }
+    requires { ⌜ (circuits (now t) ≤ 256) × Ready (now t) o ⌝ }
+    ensures { λ r. ⌜ r ≡ answerOf (circuitAt (now (t .entry))) (circuits (now (t .entry))) e o ⌝ }
 {
     match o {
         Outcome::Refuse(r) => no_loser(r.number(), 65535),

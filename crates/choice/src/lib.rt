@@ -1,14 +1,14 @@
 // Searches of a route: the circuit that a call with some mark gets, and the one that a call holds or has reserved.
 use rules::circuit::Circuit;
 use rules::mark::Mark;
+use rules::part::Reference;
 use rules::search::Found;
 ghost use mathlib.Core.Path.{_≡_};
 ghost use Prim.Native.Nat.{_+_, _*_, _/_, _<_};
-ghost use lib.ListN.{length};
 ghost use Rattle.rules.specs.Search.{firstTo};
 ghost use Rattle.rules.specs.Circuit.{isOf, rank};
 ghost use Rattle.rules.specs.Valid.{partNo};
-ghost use Rattle.rules.specs.Records.{circuitAt};
+ghost use Rattle.rules.specs.Records.{circuits, circuitAt};
 ghost use Rattle.rules.specs.Choice.{choice, heldBy, reservedBy};
 ghost use Rattle.choice.specs.Best.{improved, foundIn};
 
@@ -50,7 +50,7 @@ impl Best {
 
 // The circuit that a call with this mark gets: the lowest free one, else the best takeable one.
 pub fn choose(t: &[u8], by: Mark) -> Found
-    ensures { λ r. ⌜ r ≡ choice (circuitAt (now (t .entry))) (length (now (t .entry)) / 32) by ⌝ }
+    ensures { λ r. ⌜ r ≡ choice (circuitAt (now (t .entry))) (circuits (now (t .entry))) by ⌝ }
 {
     let n = table::count(t);
     let mut best = Best { rank: 0, at: 0 };
@@ -67,9 +67,9 @@ pub fn choose(t: &[u8], by: Mark) -> Found
 }
 
 // The circuit on which the call with this reference stands: on side 0 the holders, on side 1 the reservations.
-fn standing(t: &[u8], reference: [u8; 5], side: usize) -> Found
+fn standing(t: &[u8], reference: Reference, side: usize) -> Found
     requires { ⌜ side < 2 ⌝ }
-    ensures { λ r. ⌜ r ≡ firstTo (λ i. isOf reference (partNo (circuitAt (now (t .entry))) (2 * i + side))) (length (now (t .entry)) / 32) ⌝ }
+    ensures { λ r. ⌜ r ≡ firstTo (λ i. isOf reference (partNo (circuitAt (now (t .entry))) (2 * i + side))) (circuits (now (t .entry))) ⌝ }
 {
     let n = table::count(t);
     let mut i = 0;
@@ -83,15 +83,15 @@ fn standing(t: &[u8], reference: [u8; 5], side: usize) -> Found
 }
 
 // The circuit that the call with this reference holds.
-pub fn held_by(t: &[u8], reference: [u8; 5]) -> Found
-    ensures { λ r. ⌜ r ≡ heldBy (circuitAt (now (t .entry))) (length (now (t .entry)) / 32) reference ⌝ }
+pub fn held_by(t: &[u8], reference: Reference) -> Found
+    ensures { λ r. ⌜ r ≡ heldBy (circuitAt (now (t .entry))) (circuits (now (t .entry))) reference ⌝ }
 {
     standing(t, reference, 0)
 }
 
 // The circuit that it has reserved.
-pub fn reserved_by(t: &[u8], reference: [u8; 5]) -> Found
-    ensures { λ r. ⌜ r ≡ reservedBy (circuitAt (now (t .entry))) (length (now (t .entry)) / 32) reference ⌝ }
+pub fn reserved_by(t: &[u8], reference: Reference) -> Found
+    ensures { λ r. ⌜ r ≡ reservedBy (circuitAt (now (t .entry))) (circuits (now (t .entry))) reference ⌝ }
 {
     standing(t, reference, 1)
 }

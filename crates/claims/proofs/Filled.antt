@@ -24,7 +24,7 @@ use Rattle.rules.proofs.Records.{lawful}
 use Rattle.rules.proofs.Faults.{valid-facts}
 use Rattle.rules.proofs.Kept.{not-valid-refused}
 use Rattle.claims.specs.OneByOne.{OnlyTwoAndFour}
-use Rattle.claims.proofs.Reasons.{Reason, decided}
+use Rattle.rules.proofs.Grounds.{Grounds, decided}
 use Rattle.claims.proofs.Refused.{lengths-right, number-then, answer-then}
 
 abbrev NoLoser : Answer → Type 0
@@ -38,14 +38,14 @@ none-lost false false a b n = (refl, refl)
 
 -- over circuits x, in each of which an absent part is nobody
 module _ (x : ℕ → Circuit) (n : ℕ) (tidy : (i : ℕ) → i < n → Tidy (x i)) (e : Event) where
-  no-loser : (o : Outcome) → Reason x n e o → answerOf x n e o .number ≢ 2 → answerOf x n e o .number ≢ 4 → NoLoser (answerOf x n e o)
+  no-loser : (o : Outcome) → Grounds x n e o → answerOf x n e o .number ≢ 2 → answerOf x n e o .number ≢ 4 → NoLoser (answerOf x n e o)
   unfolding answerOf
   no-loser (Refuse r) h a b = (refl, refl)
   no-loser (Do Seize i) h a b =
       let q = anothers (e .reference) (x i .reservation) in
       let none = none-lost (x i .holder .present) (q .present) 1 2 a in
-      (tidy i (h .1) .holder (none .0), by-test (λ (p : Part). p .present ≡ false → p ≡ nobody) (isOf (e .reference) (x i .reservation)) nobody (x i .reservation) (λ z g. refl) (λ z. tidy i (h .1) .reservation) (none .1))
-  no-loser (Do Reserve i) h a b = (refl, tidy i (h .1) .reservation (none-lost false (x i .reservation .present) 3 4 b .1))
+      (tidy i (h .there) .holder (none .0), by-test (λ (p : Part). p .present ≡ false → p ≡ nobody) (isOf (e .reference) (x i .reservation)) nobody (x i .reservation) (λ z g. refl) (λ z. tidy i (h .there) .reservation) (none .1))
+  no-loser (Do Reserve i) h a b = (refl, tidy i (h .there) .reservation (none-lost false (x i .reservation .present) 3 4 b .1))
   no-loser (Do Release i) h a b = (refl, refl)
   no-loser (Do Cancel i) h a b = (refl, refl)
   no-loser Clock h a b = (refl, refl)

@@ -21,21 +21,9 @@ use Rattle.rules.specs.Layout.{Layout}
 use Rattle.rules.specs.Valid.{valid}
 use Rattle.rules.specs.Run.{decide, after, answered}
 use Rattle.rules.proofs.Lawful.{Lawful}
+use Rattle.rules.proofs.Numbers.{refusal-high}
 use Rattle.rules.proofs.Kept.{view-after}
 use Rattle.claims.specs.History.{named, told}
-
-refusal-high : (r : Refusal) → 20 < refusalNumber r
-refusal-high Malformed = omega arith
-refusal-high TableNotValid = omega arith
-refusal-high NotAllowed = omega arith
-refusal-high ByRoutine = omega arith
-refusal-high AlreadyThere = omega arith
-refusal-high MarkDiffers = omega arith
-refusal-high HolderNotLower = omega arith
-refusal-high NotThere = omega arith
-refusal-high NoCircuitForRoutine = omega arith
-refusal-high NoCircuit = omega arith
-refusal-high NoCircuitToReserve = omega arith
 
 module _ (e : Event) (i c : ℕ) (y : Circuit) where
   -- an answer above 7 tells of no change

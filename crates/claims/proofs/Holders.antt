@@ -21,7 +21,7 @@ use Rattle.rules.proofs.Faults.{valid-facts}
 use Rattle.claims.specs.History.{Turn, asked, answerNumber}
 use Rattle.claims.specs.Accidents.{HolderGoes, released, higher-set-up, HolderStays, NoHolderLost}
 use Rattle.claims.proofs.Plain.{Above, above-so}
-use Rattle.claims.proofs.Reasons.{Reason}
+use Rattle.rules.proofs.Grounds.{Grounds}
 use Rattle.claims.proofs.Parties.{by-own, by-higher, above-holder, acted, AtTurn, stays-or-goes}
 
 -- ---- valid table t shows circuits x; p is an event over it with its answer
@@ -39,18 +39,18 @@ module _ (t : List ℕ) (v : valid records t ≡ true) (p : Turn) where
   unfolding records
   order = valid-facts records t v .pair
 
-  by-seizure : (i : ℕ) → Reason x n e (Do Seize i) → p .answer ≡ answerOctets (answerOf x n e (Do Seize i)) → x i .holder .present ≡ true → HolderGoes i (x i) p
+  by-seizure : (i : ℕ) → Grounds x n e (Do Seize i) → p .answer ≡ answerOctets (answerOf x n e (Do Seize i)) → x i .holder .present ≡ true → HolderGoes i (x i) p
   unfolding answerOf
   by-seizure i r a there =
       -- the set-up's own reservation is above the holder, or the circuit was open to it
-      let above : Above (e .mark) (x i .holder .mark) = ⊎-elim (λ own. above-so (e .mark) (x i .holder .mark) (sym (ap (λ (b : Bool). not b || outranks (e .mark) (x i .holder .mark)) there) ∙ own .1)) (λ o. above-holder x n e i o (order i (r .1)) there) (r .2) in
-      higher-set-up (r .0)
+      let above : Above (e .mark) (x i .holder .mark) = ⊎-elim (λ own. above-so (e .mark) (x i .holder .mark) (sym (ap (λ (b : Bool). not b || outranks (e .mark) (x i .holder .mark)) there) ∙ own .1)) (λ o. above-holder x n e i (o .0) (order i (r .there)) there) (r .given) in
+      higher-set-up (r .set-up)
       (ap answerNumber a ∙ ap (λ (b : Bool). cond {A = ℕ} (b || anothers (e .reference) (x i .reservation) .present) 2 1) there)
       (by-higher p _ a i (value-octets 1 i) (x i .holder) _ there (length-span t (32 * i + 7) 5) above refl)
 
-  by-release : (i : ℕ) → Reason x n e (Do Release i) → p .answer ≡ answerOctets (answerOf x n e (Do Release i)) → HolderGoes i (x i) p
+  by-release : (i : ℕ) → Grounds x n e (Do Release i) → p .answer ≡ answerOctets (answerOf x n e (Do Release i)) → HolderGoes i (x i) p
   unfolding answerOf
-  by-release i r a = released (by-own p _ a i (value-octets 1 i) _ _ (r .0) (r .1)) (ap answerNumber a)
+  by-release i r a = released (by-own p _ a i (value-octets 1 i) _ _ (r .kind) (r .own)) (ap answerNumber a)
 
   at-turn : AtTurn (λ y. y .holder) HolderStays HolderGoes t p
   unfolding answerOf

@@ -9,7 +9,6 @@ pub mod Lowest
 pub mod Served
 pub mod Demanded
 pub mod Instanced
-pub mod Reasons
 pub mod Refused
 pub mod Marks
 pub mod Twice

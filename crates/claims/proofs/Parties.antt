@@ -27,7 +27,7 @@ use Rattle.claims.specs.Chosen.{Free}
 use Rattle.claims.specs.Accidents.{Own, Taken, StaysOrGoes}
 use Rattle.claims.proofs.Heard.{told-becomes}
 use Rattle.claims.proofs.Plain.{stands-in, free-so, Above, above-so, lower-so}
-use Rattle.claims.proofs.Reasons.{Open, Reason, decided}
+use Rattle.rules.proofs.Grounds.{Open, Grounds, decided}
 use Rattle.claims.proofs.Ran.{Ran, heard-as-answered, stood}
 use Rattle.claims.proofs.Start.{start-valid}
 use Rattle.claims.proofs.Demanded.{start-count, start-shows, history-then, ran-split}
@@ -80,11 +80,11 @@ module _ (part : Circuit → Part) (stays : Circuit → Circuit → Type 0) (goe
       (λ z. inr (subst (λ (d : ℕ). goes d (x d) p) z (f (ap (λ (d : ℕ). part (x d) .present) z ∙ there))))
       (λ z. inl (subst (stays (x c)) (sym (ap (λ (b : Bool). cond b (made (asked p) a (x c)) (x c)) (ne-eqb i c z))) (still (x c))))
 
-  -- at turn p over a valid table t, answered by any outcome that has its reason
+  -- at turn p over a valid table t, answered by any outcome that has its grounds
   abbrev pub AtTurn : List ℕ → Turn → Type 0
   AtTurn t p =
       (c : ℕ) → part (circuitAt t c) .present ≡ true
-      → (o : Outcome) → Reason (circuitAt t) (length t / 32) (asked p) o
+      → (o : Outcome) → Grounds (circuitAt t) (length t / 32) (asked p) o
       → p .answer ≡ answerOctets (answerOf (circuitAt t) (length t / 32) (asked p) o)
       → stays (circuitAt t c) (becomes (asked p) o c (circuitAt t c)) ⊎ goes c (circuitAt t c) p
 

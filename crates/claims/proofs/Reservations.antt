@@ -21,7 +21,7 @@ use Rattle.rules.specs.Answer.{anothers, answerOf}
 use Rattle.rules.specs.Records.{circuitAt, loser, answerOctets}
 use Rattle.claims.specs.History.{Turn, asked, answerNumber, answerPlace, told, heard}
 use Rattle.claims.specs.Accidents.{Old, Goes, own-set-up, cancelled, higher-call, overdue, Stays, NoReservationLost, OldOnesGo}
-use Rattle.claims.proofs.Reasons.{Open, Reason}
+use Rattle.rules.proofs.Grounds.{Open, Grounds}
 use Rattle.claims.proofs.Parties.{by-own, by-higher, above-reservation, acted, AtTurn, stays-or-goes}
 
 lost-number : (b : Bool) → (_≡_ {A = ℕ} (cond b 2 1) 1) ⊎ (_≡_ {A = ℕ} (cond b 2 1) 2)
@@ -56,24 +56,24 @@ module _ (t : List ℕ) (p : Turn) where
     by-taking o k l a named lost =
         higher-call k (by-higher p l a i named (x i .reservation) _ there (length-span t (32 * i + 12 + 7) 5) (above-reservation x n e i o there) lost)
 
-    by-seizure : Reason x n e (Do Seize i) → p .answer ≡ answerOctets (answerOf x n e (Do Seize i)) → Goes i (x i) p
+    by-seizure : Grounds x n e (Do Seize i) → p .answer ≡ answerOctets (answerOf x n e (Do Seize i)) → Goes i (x i) p
     unfolding answerOf
     by-seizure r a =
         by-so (isOf (e .reference) (x i .reservation))
         (λ own.
-        own-set-up (by-own p _ a i (value-octets 1 i) _ _ (r .0) own)
+        own-set-up (by-own p _ a i (value-octets 1 i) _ _ (r .set-up) own)
         (subst (λ (k : ℕ). (k ≡ 1) ⊎ (k ≡ 2)) (sym (ap answerNumber a)) (lost-number (x i .holder .present || anothers (e .reference) (x i .reservation) .present))))
         (λ other.
-        by-taking (⊎-elim (λ own. absurd (true≢false (sym (own .0) ∙ other))) (λ o. o) (r .2)) (inl (r .0)) _ a (value-octets 1 i)
+        by-taking (⊎-elim (λ own. absurd (true≢false (sym (own .0) ∙ other))) (λ o. o .0) (r .given)) (inl (r .set-up)) _ a (value-octets 1 i)
         (ap (λ (b : Bool). loser (cond b nobody (x i .reservation))) other))
 
-    by-reserving : Reason x n e (Do Reserve i) → p .answer ≡ answerOctets (answerOf x n e (Do Reserve i)) → Goes i (x i) p
+    by-reserving : Grounds x n e (Do Reserve i) → p .answer ≡ answerOctets (answerOf x n e (Do Reserve i)) → Goes i (x i) p
     unfolding answerOf
-    by-reserving r a = by-taking (r .2) (inr (r .0)) _ a (value-octets 1 i) refl
+    by-reserving r a = by-taking (r .given .0) (inr (r .look-ahead)) _ a (value-octets 1 i) refl
 
-    by-cancel : Reason x n e (Do Cancel i) → p .answer ≡ answerOctets (answerOf x n e (Do Cancel i)) → Goes i (x i) p
+    by-cancel : Grounds x n e (Do Cancel i) → p .answer ≡ answerOctets (answerOf x n e (Do Cancel i)) → Goes i (x i) p
     unfolding answerOf
-    by-cancel r a = cancelled (by-own p _ a i (value-octets 1 i) _ _ (r .0) (r .1)) (ap answerNumber a)
+    by-cancel r a = cancelled (by-own p _ a i (value-octets 1 i) _ _ (r .kind) (r .own)) (ap answerNumber a)
 
   at-turn : AtTurn (λ y. y .reservation) Stays Goes t p
   unfolding answerOf

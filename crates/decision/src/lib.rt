@@ -6,11 +6,11 @@ use rules::outcome::Act;
 use rules::outcome::Outcome;
 use rules::outcome::Refusal;
 use rules::part::Part;
+use rules::part::Reference;
 use rules::search::Found;
 ghost use mathlib.Core.Path.{_≡_};
 ghost use mathlib.Core.Bool.{true, false, not, _||_};
 ghost use Prim.Native.Nat.{_/_};
-ghost use lib.ListN.{length};
 ghost use Rattle.rules.specs.Search.{found};
 ghost use Rattle.rules.specs.Circuit.{outranks};
 ghost use Rattle.rules.specs.Choice.{heldBy, reservedBy, choice};
@@ -18,8 +18,8 @@ ghost use Rattle.rules.specs.Decision.{onReservation, blocked, setUp, lookAhead
 ghost use Rattle.rules.specs.Decision as rule;
 ghost use Rattle.rules.specs.Valid.{valid};
 ghost use Rattle.rules.specs.Run as run;
-ghost use Rattle.rules.specs.Records.{circuitAt, records};
-ghost use Rattle.decision.specs.Ready.{Ready};
+ghost use Rattle.rules.specs.Records.{circuits, circuitAt, records};
+ghost use Rattle.rules.specs.Ready.{Ready};
 
 // Nobody holds the circuit, or one whom the mark outranks.
 fn yields(holder: Part, by: Mark) -> bool
@@ -59,7 +59,7 @@ fn blocked(e: Event) -> Refusal
 
 // The choice, for a call that stands nowhere: done there, or refused for want of a circuit.
 fn chosen(t: &[u8], e: Event, act: Act, want: Refusal) -> Outcome
-    ensures { λ r. ⌜ r ≡ found (choice (circuitAt (now (t .entry))) (length (now (t .entry)) / 32) (e .mark)) (Outcome.Do act) (Outcome.Refuse want) ⌝ }
+    ensures { λ r. ⌜ r ≡ found (choice (circuitAt (now (t .entry))) (circuits (now (t .entry))) (e .mark)) (Outcome.Do act) (Outcome.Refuse want) ⌝ }
 {
     match choice::choose(t, e.mark) {
         Found::At(i) => Outcome::Do(act, i),
@@ -69,7 +69,7 @@ fn chosen(t: &[u8], e: Event, act: Act, want: Refusal) -> Outcome
 
 // A set-up by a call that holds nothing.
 fn unheld(t: &[u8], e: Event) -> Outcome
-    ensures { λ r. ⌜ r ≡ found (reservedBy (circuitAt (now (t .entry))) (length (now (t .entry)) / 32) (e .reference)) (λ i. onReservation e (circuitAt (now (t .entry)) i) i) (found (choice (circuitAt (now (t .entry))) (length (now (t .entry)) / 32) (e .mark)) (Outcome.Do Act.Seize) (Outcome.Refuse (blocked e))) ⌝ }
+    ensures { λ r. ⌜ r ≡ found (reservedBy (circuitAt (now (t .entry))) (circuits (now (t .entry))) (e .reference)) (λ i. onReservation e (circuitAt (now (t .entry)) i) i) (found (choice (circuitAt (now (t .entry))) (circuits (now (t .entry))) (e .mark)) (Outcome.Do Act.Seize) (Outcome.Refuse (blocked e))) ⌝ }
 {
     let reference = e.reference;
     match choice::reserved_by(t, reference) {
@@ -79,7 +79,7 @@ fn unheld(t: &[u8], e: Event) -> Outcome
 }
 
 fn set_up(t: &[u8], e: Event) -> Outcome
-    ensures { λ r. ⌜ r ≡ setUp (circuitAt (now (t .entry))) (length (now (t .entry)) / 32) e ⌝ }
+    ensures { λ r. ⌜ r ≡ setUp (circuitAt (now (t .entry))) (circuits (now (t .entry))) e ⌝ }
 {
     let reference = e.reference;
     match choice::held_by(t, reference) {
@@ -89,8 +89,8 @@ fn set_up(t: &[u8], e: Event) -> Outcome
 }
 
 // Whether the call with this reference stands on no circuit.
-fn nowhere(t: &[u8], reference: [u8; 5]) -> bool
-    ensures { λ r. ⌜ r ≡ found (heldBy (circuitAt (now (t .entry))) (length (now (t .entry)) / 32) reference) (λ i. false) (found (reservedBy (circuitAt (now (t .entry))) (length (now (t .entry)) / 32) reference) (λ i. false) true) ⌝ }
+fn nowhere(t: &[u8], reference: Reference) -> bool
+    ensures { λ r. ⌜ r ≡ found (heldBy (circuitAt (now (t .entry))) (circuits (now (t .entry))) reference) (λ i. false) (found (reservedBy (circuitAt (now (t .entry))) (circuits (now (t .entry))) reference) (λ i. false) true) ⌝ }
 {
     match choice::held_by(t, reference) {
         Found::At(_) => false,
@@ -102,7 +102,7 @@ fn nowhere(t: &[u8], reference: [u8; 5]) -> bool
 }
 
 fn look_ahead(t: &[u8], e: Event) -> Outcome
-    ensures { λ r. ⌜ r ≡ lookAhead (circuitAt (now (t .entry))) (length (now (t .entry)) / 32) e ⌝ }
+    ensures { λ r. ⌜ r ≡ lookAhead (circuitAt (now (t .entry))) (circuits (now (t .entry))) e ⌝ }
 {
     let reference = e.reference;
     if e.lfb != 0 {
@@ -118,7 +118,7 @@ fn look_ahead(t: &[u8], e: Event) -> Outcome
 }
 
 fn release(t: &[u8], e: Event) -> Outcome
-    ensures { λ r. ⌜ r ≡ release (circuitAt (now (t .entry))) (length (now (t .entry)) / 32) e ⌝ }
+    ensures { λ r. ⌜ r ≡ release (circuitAt (now (t .entry))) (circuits (now (t .entry))) e ⌝ }
 {
     let reference = e.reference;
     match choice::held_by(t, reference) {
@@ -128,7 +128,7 @@ fn release(t: &[u8], e: Event) -> Outcome
 }
 
 fn cancel(t: &[u8], e: Event) -> Outcome
-    ensures { λ r. ⌜ r ≡ cancel (circuitAt (now (t .entry))) (length (now (t .entry)) / 32) e ⌝ }
+    ensures { λ r. ⌜ r ≡ cancel (circuitAt (now (t .entry))) (circuits (now (t .entry))) e ⌝ }
 {
     let reference = e.reference;
     match choice::reserved_by(t, reference) {
@@ -139,7 +139,7 @@ fn cancel(t: &[u8], e: Event) -> Outcome
 
 // By its kind.
 fn decision(t: &[u8], e: Event) -> Outcome
-    ensures { λ r. ⌜ r ≡ rule.decision (circuitAt (now (t .entry))) (length (now (t .entry)) / 32) e ⌝ }
+    ensures { λ r. ⌜ r ≡ rule.decision (circuitAt (now (t .entry))) (circuits (now (t .entry))) e ⌝ }
 {
     let kind = e.kind;
     match kind {

@@ -5,16 +5,15 @@ use rules::outcome::Outcome;
 ghost use mathlib.Core.Path.{_≡_};
 ghost use mathlib.Core.Bool.{cond};
 ghost use Prim.Native.Nat.{_/_, _<_};
-ghost use lib.ListN.{length};
 ghost use Rattle.rules.specs.Circuit.{overdue, made};
 ghost use Rattle.rules.specs.Run.{sweepTo};
 ghost use Rattle.rules.specs.Run as run;
-ghost use Rattle.rules.specs.Records.{circuitAt, putCircuit, records};
-ghost use Rattle.decision.specs.Ready.{Ready};
+ghost use Rattle.rules.specs.Records.{circuits, circuitAt, putCircuit, records};
+ghost use Rattle.rules.specs.Ready.{Ready};
 
 // Circuit i, made anew and written whole.
 fn renew(t: &mut [u8], e: Event, a: Act, i: usize)
-    requires { ⌜ i < length (now t) / 32 ⌝ }
+    requires { ⌜ i < circuits (now t) ⌝ }
     ensures { λ _. ⌜ now (t .exit) ≡ putCircuit (now (t .entry)) i (made e a (circuitAt (now (t .entry)) i)) ⌝ }
 {
     let c = table::circuit_at(t, i);
@@ -37,7 +36,7 @@ fn act(t: &mut [u8], e: Event, a: Act, i: usize)
 
 // The reservation on circuit i, removed if it is overdue.
 fn relieve(t: &mut [u8], e: Event, i: usize)
-    requires { ⌜ i < length (now t) / 32 ⌝ }
+    requires { ⌜ i < circuits (now t) ⌝ }
     ensures { λ _. ⌜ now (t .exit) ≡ cond (overdue (e .clock) (circuitAt (now (t .entry)) i)) (putCircuit (now (t .entry)) i (made e Act.Cancel (circuitAt (now (t .entry)) i))) (now (t .entry)) ⌝ }
 {
     if table::circuit_at(t, i).overdue(e.clock) {
@@ -47,7 +46,7 @@ fn relieve(t: &mut [u8], e: Event, i: usize)
 
 // Every reservation that is overdue, removed.
 fn sweep(t: &mut [u8], e: Event)
-    ensures { λ _. ⌜ now (t .exit) ≡ sweepTo records (now (t .entry)) e (length (now (t .entry)) / 32) ⌝ }
+    ensures { λ _. ⌜ now (t .exit) ≡ sweepTo records (now (t .entry)) e (circuits (now (t .entry))) ⌝ }
 {
     let n = table::count(t);
     let mut i = 0;

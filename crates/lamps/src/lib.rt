@@ -3,8 +3,8 @@ use rules::search::Found;
 ghost use mathlib.Core.Path.{_≡_};
 ghost use mathlib.Core.Bool.{cond};
 ghost use Prim.Native.Nat.{_/_, _-_, _≤_, _<_, min};
-ghost use lib.ListN.{length};
 ghost use Rattle.lamps.specs.Lamps.{litAt, word, numberIn, lowestIn, litMap, darkMap, lampMap};
+ghost use Rattle.rules.specs.Records.{circuits};
 
 #[repr(C)]
 pub struct Lamps {
@@ -74,7 +74,7 @@ pub fn lowest(words: [u64; 4]) -> Found
 
 // The lamps of a table.
 fn lit_map(t: &[u8]) -> Lamps
-    requires { ⌜ length (now t) / 32 ≤ 256 ⌝ }
+    requires { ⌜ circuits (now t) ≤ 256 ⌝ }
     ensures { λ r. ⌜ r ≡ litMap (now (t .entry)) ⌝ }
 {
     let words = [word(t, 0), word(t, 1), word(t, 2), word(t, 3)];

@@ -9,7 +9,7 @@ ghost use lib.ListN.{length};
 ghost use Rattle.rules.specs.Circuit.{isOf};
 ghost use Rattle.rules.specs.Search.{firstTo};
 ghost use Rattle.rules.specs.Valid.{partNo, repeated};
-ghost use Rattle.rules.specs.Records.{circuitAt};
+ghost use Rattle.rules.specs.Records.{circuits, circuitAt};
 ghost use Rattle.references.specs.Filter.{bitsIn, already, standsTo, Grown, Seen};
 ghost use Rattle.references.specs.Filter as filter;
 
@@ -60,7 +60,7 @@ fn may_repeat(w: &mut [u64; 64], p: Part) -> bool
 
 // The call with this reference stands on circuit i.
 fn stands_on(t: &[u8], i: usize, r: [u8; 5]) -> bool
-    requires { ⌜ i < length (now t) / 32 ⌝ }
+    requires { ⌜ i < circuits (now t) ⌝ }
     ensures { λ b. ⌜ b ≡ isOf r (partNo (circuitAt (now (t .entry))) (2 * i)) || isOf r (partNo (circuitAt (now (t .entry))) (2 * i + 1)) ⌝ }
 {
     let holder = table::part_no(t, 2 * i);
@@ -73,7 +73,7 @@ fn stands_on(t: &[u8], i: usize, r: [u8; 5]) -> bool
 
 // It stands on a circuit below i.
 fn stands_below(t: &[u8], i: usize, r: [u8; 5]) -> bool
-    requires { ⌜ i ≤ length (now t) / 32 ⌝ }
+    requires { ⌜ i ≤ circuits (now t) ⌝ }
     ensures { λ b. ⌜ b ≡ standsTo (circuitAt (now (t .entry))) r (2 * i) ⌝ }
 {
     let mut k = 0;
@@ -88,7 +88,7 @@ fn stands_below(t: &[u8], i: usize, r: [u8; 5]) -> bool
 
 // Whether the holder's reference of circuit i stands in an earlier part; it is noted.
 fn note_holder(t: &[u8], w: &mut [u64; 64], i: usize) -> bool
-    requires { ⌜ (i < length (now t) / 32) × Seen (circuitAt (now t)) (now w) (2 * i) ⌝ }
+    requires { ⌜ (i < circuits (now t)) × Seen (circuitAt (now t)) (now w) (2 * i) ⌝ }
     ensures { λ b. ⌜ b ≡ repeated (circuitAt (now (t .entry))) (2 * i) ⌝ }
     ensures { λ _. ⌜ Seen (circuitAt (now (t .entry))) (now (w .exit)) (2 * i + 1) ⌝ }
 {
@@ -102,7 +102,7 @@ fn note_holder(t: &[u8], w: &mut [u64; 64], i: usize) -> bool
 
 // The same of its reservation's, for which the holder's part is an earlier one.
 fn note_reservation(t: &[u8], w: &mut [u64; 64], i: usize) -> bool
-    requires { ⌜ (i < length (now t) / 32) × Seen (circuitAt (now t)) (now w) (2 * i + 1) ⌝ }
+    requires { ⌜ (i < circuits (now t)) × Seen (circuitAt (now t)) (now w) (2 * i + 1) ⌝ }
     ensures { λ b. ⌜ b ≡ repeated (circuitAt (now (t .entry))) (2 * i + 1) ⌝ }
     ensures { λ _. ⌜ Seen (circuitAt (now (t .entry))) (now (w .exit)) (2 * i + 1 + 1) ⌝ }
 {
@@ -120,7 +120,7 @@ fn note_reservation(t: &[u8], w: &mut [u64; 64], i: usize) -> bool
 
 // The first part whose reference stands in an earlier one.
 pub fn first_repeated(t: &[u8]) -> Found
-    ensures { λ r. ⌜ r ≡ firstTo (repeated (circuitAt (now (t .entry)))) (2 * (length (now (t .entry)) / 32)) ⌝ }
+    ensures { λ r. ⌜ r ≡ firstTo (repeated (circuitAt (now (t .entry)))) (2 * (circuits (now (t .entry)))) ⌝ }
 {
     let n = t.len() / 32;
     let mut w = [0u64; 64];

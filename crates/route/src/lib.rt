@@ -8,15 +8,15 @@ ghost use lib.Dec.{eqb};
 ghost use Rattle.octets.specs.Span.{span, put};
 ghost use Rattle.rules.specs.Valid.{valid};
 ghost use Rattle.rules.specs.Run.{after, answered, answer, run, answers};
-ghost use Rattle.rules.specs.Records.{records, tableLength, listLength};
+ghost use Rattle.rules.specs.Records.{circuits, records, tableLength, listLength};
 ghost use Rattle.route.specs.Entries.{eventNumber, eventTable, eventAnswer, eventsTo, listNumber, listTable, listAnswers};
 
 // The event at place o, applied to a table that is known to be valid or not; its answer at the same place.
 fn apply(t: &mut [u8], es: &[u8], answers: &mut [u8], o: usize, good: bool) -> u8
-    requires { ⌜ (length (now t) / 32 ≤ 256) × (o + 16 ≤ length (now es)) × (o + 16 ≤ length (now answers)) × (good ≡ valid records (now t)) ⌝ }
-    ensures { λ r. ⌜ r ≡ answered records (now (t .entry)) (span (now (es .entry)) o 16) .number ⌝ }
-    ensures { λ _. ⌜ now (t .exit) ≡ after records (now (t .entry)) (span (now (es .entry)) o 16) ⌝ }
-    ensures { λ _. ⌜ now (answers .exit) ≡ put (now (answers .entry)) o (answer records (now (t .entry)) (span (now (es .entry)) o 16)) ⌝ }
+    requires { ⌜ (circuits (now t) ≤ 256) × (o + 16 ≤ length (now es)) × (o + 16 ≤ length (now answers)) × (good ≡ valid records (now t)) ⌝ }
+    ensures number { λ r. ⌜ r ≡ answered records (now (t .entry)) (span (now (es .entry)) o 16) .number ⌝ }
+    ensures table { λ _. ⌜ now (t .exit) ≡ after records (now (t .entry)) (span (now (es .entry)) o 16) ⌝ }
+    ensures answers { λ _. ⌜ now (answers .exit) ≡ put (now (answers .entry)) o (answer records (now (t .entry)) (span (now (es .entry)) o 16)) ⌝ }
 {
     let e = events::read(es, o);
     let outcome = decision::decide(t, e, good);
@@ -28,7 +28,7 @@ fn apply(t: &mut [u8], es: &[u8], answers: &mut [u8], o: usize, good: bool) -> u
 
 // The lengths of a table, an event and its answer.
 fn event_lengths(t: usize, e: usize, a: usize) -> bool
-    ensures { λ r. ⌜ r ≡ tableLength t && (eqb e 16 && eqb a 16) ⌝ }
+    ensures number { λ r. ⌜ r ≡ tableLength t && (eqb e 16 && eqb a 16) ⌝ }
 {
     if !table::right_length(t) {
         return false;
@@ -41,9 +41,9 @@ fn event_lengths(t: usize, e: usize, a: usize) -> bool
 
 // One event: its number is given back and stands in the answer; at 20 nothing is written.
 pub fn event(t: &mut [u8], e: &[u8], a: &mut [u8]) -> u8
-    ensures { λ r. ⌜ r ≡ eventNumber (now (t .entry)) (now (e .entry)) (now (a .entry)) ⌝ }
-    ensures { λ _. ⌜ now (t .exit) ≡ eventTable (now (t .entry)) (now (e .entry)) (now (a .entry)) ⌝ }
-    ensures { λ _. ⌜ now (a .exit) ≡ eventAnswer (now (t .entry)) (now (e .entry)) (now (a .entry)) ⌝ }
+    ensures number { λ r. ⌜ r ≡ eventNumber (now (t .entry)) (now (e .entry)) (now (a .entry)) ⌝ }
+    ensures table { λ _. ⌜ now (t .exit) ≡ eventTable (now (t .entry)) (now (e .entry)) (now (a .entry)) ⌝ }
+    ensures answers { λ _. ⌜ now (a .exit) ≡ eventAnswer (now (t .entry)) (now (e .entry)) (now (a .entry)) ⌝ }
 {
     if !event_lengths(t.len(), e.len(), a.len()) {
         return 20;
@@ -54,7 +54,7 @@ pub fn event(t: &mut [u8], e: &[u8], a: &mut [u8]) -> u8
 
 // The lengths of a table, its events and their answer places.
 fn list_lengths(t: usize, es: usize, places: usize) -> bool
-    ensures { λ r. ⌜ r ≡ tableLength t && listLength es places ⌝ }
+    ensures number { λ r. ⌜ r ≡ tableLength t && listLength es places ⌝ }
 {
     if !table::right_length(t) {
         return false;
@@ -70,9 +70,9 @@ fn list_lengths(t: usize, es: usize, places: usize) -> bool
 
 // The first n events, one after another. The table is looked at once, since no event makes it valid or not valid.
 fn each(t: &mut [u8], es: &[u8], places: &mut [u8], n: usize, good: bool)
-    requires { ⌜ (length (now t) / 32 ≤ 256) × (16 * n ≤ length (now es)) × (16 * n ≤ length (now places)) × (good ≡ valid records (now t)) ⌝ }
-    ensures { λ _. ⌜ now (t .exit) ≡ run records (now (t .entry)) (eventsTo (now (es .entry)) n) ⌝ }
-    ensures { λ _. ⌜ now (places .exit) ≡ put (now (places .entry)) 0 (flatten (answers records (now (t .entry)) (eventsTo (now (es .entry)) n))) ⌝ }
+    requires { ⌜ (circuits (now t) ≤ 256) × (16 * n ≤ length (now es)) × (16 * n ≤ length (now places)) × (good ≡ valid records (now t)) ⌝ }
+    ensures table { λ _. ⌜ now (t .exit) ≡ run records (now (t .entry)) (eventsTo (now (es .entry)) n) ⌝ }
+    ensures answers { λ _. ⌜ now (places .exit) ≡ put (now (places .entry)) 0 (flatten (answers records (now (t .entry)) (eventsTo (now (es .entry)) n))) ⌝ }
 {
     let mut k = 0;
     while k < n {
@@ -83,9 +83,9 @@ fn each(t: &mut [u8], es: &[u8], places: &mut [u8], n: usize, good: bool)
 
 // A list of events: 0, or 20 with nothing written.
 pub fn list(t: &mut [u8], es: &[u8], places: &mut [u8]) -> u8
-    ensures { λ r. ⌜ r ≡ listNumber (now (t .entry)) (now (es .entry)) (now (places .entry)) ⌝ }
-    ensures { λ _. ⌜ now (t .exit) ≡ listTable (now (t .entry)) (now (es .entry)) (now (places .entry)) ⌝ }
-    ensures { λ _. ⌜ now (places .exit) ≡ listAnswers (now (t .entry)) (now (es .entry)) (now (places .entry)) ⌝ }
+    ensures number { λ r. ⌜ r ≡ listNumber (now (t .entry)) (now (es .entry)) (now (places .entry)) ⌝ }
+    ensures table { λ _. ⌜ now (t .exit) ≡ listTable (now (t .entry)) (now (es .entry)) (now (places .entry)) ⌝ }
+    ensures answers { λ _. ⌜ now (places .exit) ≡ listAnswers (now (t .entry)) (now (es .entry)) (now (places .entry)) ⌝ }
 {
     if !list_lengths(t.len(), es.len(), places.len()) {
         return 20;

@@ -10,7 +10,7 @@ ghost use mathlib.Core.List.{_++_};
 ghost use Rattle.octets.specs.Number.{octets};
 ghost use Rattle.octets.specs.Span.{span, put, zeros};
 ghost use Rattle.rules.specs.Valid.{partNo};
-ghost use Rattle.rules.specs.Records.{partAt, circuitAt, partOctets, putCircuit, flagsAt, blankPart, blankAt, tableLength};
+ghost use Rattle.rules.specs.Records.{circuits, partAt, circuitAt, partOctets, putCircuit, flagsAt, blankPart, blankAt, tableLength};
 
 // A table is 1 to 256 records of 32 octets.
 pub fn right_length(n: usize) -> bool
@@ -28,7 +28,7 @@ pub fn right_length(n: usize) -> bool
 
 // How many circuits there are.
 pub fn count(t: &[u8]) -> usize
-    ensures { λ r. ⌜ r ≡ length (now (t .entry)) / 32 ⌝ }
+    ensures { λ r. ⌜ r ≡ circuits (now (t .entry)) ⌝ }
 {
     t.len() / 32
 }
@@ -52,7 +52,7 @@ pub fn part_at(t: &[u8], o: usize) -> Part
 
 // Part k: 2 i is the holder's of circuit i, and 2 i + 1 its reservation's.
 pub fn part_no(t: &[u8], k: usize) -> Part
-    requires { ⌜ k < 2 * (length (now t) / 32) ⌝ }
+    requires { ⌜ k < 2 * (circuits (now t)) ⌝ }
     ensures { λ r. ⌜ r ≡ partNo (circuitAt (now (t .entry))) k ⌝ }
 {
     part_at(t, 32 * (k / 2) + 12 * (k % 2))
@@ -60,7 +60,7 @@ pub fn part_no(t: &[u8], k: usize) -> Part
 
 // What stands at circuit i.
 pub fn circuit_at(t: &[u8], i: usize) -> Circuit
-    requires { ⌜ i < length (now t) / 32 ⌝ }
+    requires { ⌜ i < circuits (now t) ⌝ }
     ensures { λ r. ⌜ r ≡ circuitAt (now (t .entry)) i ⌝ }
 {
     let o = 32 * i;
@@ -99,7 +99,7 @@ fn part_octets(p: Part) -> [u8; 12]
 
 // The holder's part of circuit i, written.
 pub fn store_holder(t: &mut [u8], i: usize, p: Part)
-    requires { ⌜ i < length (now t) / 32 ⌝ }
+    requires { ⌜ i < circuits (now t) ⌝ }
     ensures { λ _. ⌜ now (t .exit) ≡ put (now (t .entry)) (32 * i) (partOctets p) ⌝ }
 {
     let v = part_octets(p);
@@ -108,7 +108,7 @@ pub fn store_holder(t: &mut [u8], i: usize, p: Part)
 
 // The reservation's part of circuit i, written with its clock.
 pub fn store_reservation(t: &mut [u8], i: usize, p: Part, clock: u32)
-    requires { ⌜ i < length (now t) / 32 ⌝ }
+    requires { ⌜ i < circuits (now t) ⌝ }
     ensures { λ _. ⌜ now (t .exit) ≡ put (now (t .entry)) (32 * i + 12) (partOctets p ++ octets 4 clock) ⌝ }
 {
     let o = 32 * i + 12;
@@ -120,7 +120,7 @@ pub fn store_reservation(t: &mut [u8], i: usize, p: Part, clock: u32)
 
 // Circuit i, written whole.
 pub fn store(t: &mut [u8], i: usize, c: Circuit)
-    requires { ⌜ i < length (now t) / 32 ⌝ }
+    requires { ⌜ i < circuits (now t) ⌝ }
     ensures { λ _. ⌜ now (t .exit) ≡ putCircuit (now (t .entry)) i c ⌝ }
 {
     let z = [0u8; 4];
@@ -131,7 +131,7 @@ pub fn store(t: &mut [u8], i: usize, c: Circuit)
 
 // Each flag of record i is 0 or 1.
 pub fn flags(t: &[u8], i: usize) -> bool
-    requires { ⌜ i < length (now t) / 32 ⌝ }
+    requires { ⌜ i < circuits (now t) ⌝ }
     ensures { λ r. ⌜ r ≡ flagsAt (now (t .entry)) i ⌝ }
 {
     let o = 32 * i;
@@ -181,7 +181,7 @@ fn reservation_blank(t: &[u8], o: usize) -> bool
 
 // What must be zero in record i is zero.
 pub fn blank(t: &[u8], i: usize) -> bool
-    requires { ⌜ i < length (now t) / 32 ⌝ }
+    requires { ⌜ i < circuits (now t) ⌝ }
     ensures { λ r. ⌜ r ≡ blankAt (now (t .entry)) i ⌝ }
 {
     let o = 32 * i;

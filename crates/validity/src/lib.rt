@@ -12,7 +12,7 @@ ghost use lib.ListN.{length};
 ghost use Rattle.rules.specs.Fields.{levelOk, decimal, codeOk};
 ghost use Rattle.rules.specs.Valid.{ifPresent, levelsOk, fieldsOk, pairOk, isValid, verdictNumber, recordVerdict, recordsTo, partsTo};
 ghost use Rattle.rules.specs.Valid as rule;
-ghost use Rattle.rules.specs.Records.{circuitAt, flagsAt, records, checkNumber};
+ghost use Rattle.rules.specs.Records.{circuits, circuitAt, flagsAt, records, checkNumber};
 ghost use Rattle.validity.specs.Order.{partInOrder, inOrder};
 ghost use Rattle.validity.specs.Order as order;
 
@@ -81,7 +81,7 @@ fn pair_ok(c: Circuit) -> bool
 }
 
 fn flags_and_levels(t: &[u8], i: usize, c: Circuit) -> bool
-    requires { ⌜ i < length (now t) / 32 ⌝ }
+    requires { ⌜ i < circuits (now t) ⌝ }
     ensures { λ r. ⌜ r ≡ flagsAt (now (t .entry)) i && levelsOk c ⌝ }
 {
     if table::flags(t, i) {
@@ -93,7 +93,7 @@ fn flags_and_levels(t: &[u8], i: usize, c: Circuit) -> bool
 
 // Record i by itself: the first reason that applies.
 fn record(t: &[u8], i: usize) -> Verdict
-    requires { ⌜ i < length (now t) / 32 ⌝ }
+    requires { ⌜ i < circuits (now t) ⌝ }
     ensures { λ r. ⌜ r ≡ recordVerdict records (now (t .entry)) i ⌝ }
 {
     let c = table::circuit_at(t, i);
@@ -153,7 +153,7 @@ fn reservation_in_order(t: &[u8], o: usize) -> bool
 
 // Nothing is wrong with record i.
 fn in_order(t: &[u8], i: usize) -> bool
-    requires { ⌜ i < length (now t) / 32 ⌝ }
+    requires { ⌜ i < circuits (now t) ⌝ }
     ensures { λ r. ⌜ r ≡ inOrder (now (t .entry)) i ⌝ }
 {
     let o = 32 * i;
@@ -171,7 +171,7 @@ fn in_order(t: &[u8], i: usize) -> bool
 
 // The same verdict, given at once of a record in order.
 fn judge(t: &[u8], i: usize) -> Verdict
-    requires { ⌜ i < length (now t) / 32 ⌝ }
+    requires { ⌜ i < circuits (now t) ⌝ }
     ensures { λ r. ⌜ r ≡ recordVerdict records (now (t .entry)) i ⌝ }
 {
     if in_order(t, i) {
@@ -192,7 +192,7 @@ fn is_valid(v: Verdict) -> bool
 
 // Each record by itself, the lowest first.
 fn each_record(t: &[u8]) -> Verdict
-    ensures { λ r. ⌜ r ≡ recordsTo records (now (t .entry)) (length (now (t .entry)) / 32) ⌝ }
+    ensures { λ r. ⌜ r ≡ recordsTo records (now (t .entry)) (circuits (now (t .entry))) ⌝ }
 {
     let n = table::count(t);
     let mut i = 0;
@@ -208,7 +208,7 @@ fn each_record(t: &[u8]) -> Verdict
 
 // No call reference stands in two parts.
 fn each_reference(t: &[u8]) -> Verdict
-    ensures { λ r. ⌜ r ≡ partsTo records (now (t .entry)) (length (now (t .entry)) / 32) ⌝ }
+    ensures { λ r. ⌜ r ≡ partsTo records (now (t .entry)) (circuits (now (t .entry))) ⌝ }
 {
     match references::first_repeated(t) {
         Found::At(k) => Verdict::Fault(Reason::Repeated, k / 2),

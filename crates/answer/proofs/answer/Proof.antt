@@ -6,7 +6,7 @@ use denote.Ref.{now}
 use native.Mathlib.Omega.{arith}
 use Rattle.rules.specs.Answer.{nowhere, noLoser, answerOf}
 use Rattle.rules.specs.Records.{circuitAt}
-use Rattle.decision.specs.Ready.{Ready}
+use Rattle.rules.specs.Ready.{Ready}
 use Rattle.answer.proofs.Told.{told}
 use borrow.Author.Needs.{needs}
 use Rattle.answer.proofs.answer.Statement.{statement}

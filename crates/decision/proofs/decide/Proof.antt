@@ -5,7 +5,7 @@ use borrow.Author.Tests.{not-false}
 use Rattle.rules.specs.Run.{decide}
 use Rattle.rules.specs.Records.{records}
 use Rattle.octets.proofs.Tests.{ways}
-use Rattle.decision.specs.Ready.{Ready}
+use Rattle.rules.specs.Ready.{Ready}
 use Rattle.decision.proofs.Named.{ready}
 use borrow.Author.Needs.{needs}
 use Rattle.decision.proofs.decide.Statement.{statement}
@@ -26,7 +26,7 @@ unfolding decide records
 returns-3 c =
     let start = c .before .before .before .before .before in
     let t = now (start .args .t) in
-    (search ways depth 8, subst (Ready t) (sym (c .decision .ensures)) (ready t (sym (start .pre) ∙ not-false _ (c .before .if2 .left)) (start .args .e)))
+    (search ways depth 8, subst (Ready t) (sym (c .decision .ensures)) (ready t (sym (start .pre) ∙ not-false _ (c .before .if2 .left)) (start .args .e) (sym (c .before .before .before .well-formed .ensures) ∙ not-false _ (c .before .before .if1 .left))))
 
 pub decide-spec : {M : Type 1} → statement M
 decide-spec =

@@ -5,7 +5,7 @@ use lib.ListN.{length}
 use denote.Ref.{now}
 use Rattle.rules.specs.Run.{effect}
 use Rattle.rules.specs.Records.{records}
-use Rattle.decision.specs.Ready.{Ready}
+use Rattle.rules.specs.Ready.{Ready}
 use borrow.Author.Needs.{needs}
 use Rattle.effect.proofs.effect.Statement.{statement}
 use Rattle.effect.proofs.effect.Tie as tie

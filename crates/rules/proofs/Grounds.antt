@@ -1,0 +1,128 @@
+-- Why an outcome is decided: by which kind of event, and what stood on the circuit.
+use Prim.Native.Nat.{ℕ, _<_}
+use mathlib.Core.Path.{_≡_, refl, sym, ap, _∙_}
+use mathlib.Core.Logic.{⊎-elim, _⊎_, inl, inr}
+use mathlib.Core.Bool.{Bool, true, false, cond, _&&_, _||_, not, true≢false}
+use lib.Dec.{eqb}
+use borrow.Author.Tests.{eqb-true}
+use Rattle.octets.proofs.Tests.{by-so, by-test}
+use Rattle.rules.specs.declared.circuit.Circuit.{Circuit}
+use Rattle.rules.specs.declared.event.Event.{Event}
+use Rattle.rules.specs.declared.search.Found.{Found}
+use Rattle.rules.specs.declared.search.Found.the-variants.{At, Nothing}
+use Rattle.rules.specs.declared.outcome.Act.the-variants.{Seize, Reserve, Release, Cancel}
+use Rattle.rules.specs.declared.outcome.Refusal.the-variants.{Malformed, TableNotValid, NotAllowed, ByRoutine, AlreadyThere, MarkDiffers, HolderNotLower, NotThere, NoCircuitToReserve}
+use Rattle.rules.specs.declared.outcome.Outcome.{Outcome}
+use Rattle.rules.specs.declared.outcome.Outcome.the-variants.{Refuse, Do, Clock}
+use Rattle.rules.specs.Fields.{allowed}
+use Rattle.rules.specs.Search.{found}
+use Rattle.rules.specs.Circuit.{isRoutine, outranks, sameMark, isOf, free, takeable}
+use Rattle.rules.specs.Choice.{heldBy, reservedBy, choice}
+use Rattle.rules.specs.Event.{marked, wellFormed}
+use Rattle.rules.specs.Decision.{onReservation, blocked, setUp, lookAhead, release, cancel, decision}
+use Rattle.rules.specs.Layout.{Layout}
+use Rattle.rules.specs.Valid.{valid}
+use Rattle.rules.specs.Run.{decide}
+use Rattle.rules.proofs.Searches.{by-first}
+use Rattle.rules.proofs.Choice.{ChoiceIs, choice-is}
+
+-- two nests of `cond` with the same tests: where the one holds, the other has P
+by-kind : (P : Outcome → Type 0) (b v w : Bool) (p q : Outcome) → (b ≡ true → v ≡ true → P p) → (w ≡ true → P q) → cond b v w ≡ true → P (cond b p q)
+by-kind P true v w p q f g h = f refl h
+by-kind P false v w p q f g h = g h
+
+module _ (x : ℕ → Circuit) (n : ℕ) (e : Event) where
+  abbrev pub Reserved : ℕ → Bool
+  Reserved i = isOf (e .reference) (x i .reservation)
+
+  abbrev pub Held : ℕ → Bool
+  Held i = isOf (e .reference) (x i .holder)
+
+  abbrev pub Open : ℕ → Type 0  -- circuit i is free or takeable
+  Open i = (free (x i) ≡ true) ⊎ (takeable (e .mark) (x i) ≡ true)
+
+  abbrev pub HolderLower : ℕ → Bool  -- a holder of circuit i is strictly lower in the same domain
+  HolderLower i = not (x i .holder .present) || outranks (e .mark) (x i .holder .mark)
+
+  abbrev pub Nowhere : Type 0  -- the event's call holds no circuit and has reserved none
+  Nowhere = ((j : ℕ) → j < n → Held j ≡ false) × ((j : ℕ) → j < n → Reserved j ≡ false)
+
+  -- a set-up seizes circuit i: its own reservation, or one that is open to a call that stands nowhere
+  pub record Seizes (i : ℕ) : Type 0 where
+    pub set-up : e .kind ≡ 1
+    pub well-marked : marked e ≡ true
+    pub there : i < n
+    pub given : ((Reserved i ≡ true) × (HolderLower i ≡ true)) ⊎ (Open i × Nowhere)
+
+  -- a look-ahead of a call that stands nowhere reserves circuit i
+  pub record Reserves (i : ℕ) : Type 0 where
+    pub look-ahead : e .kind ≡ 3
+    pub well-marked : marked e ≡ true
+    pub there : i < n
+    pub given : Open i × Nowhere
+
+  -- an event of kind k empties the part of circuit i in which its call stands
+  pub record Empties (k : ℕ) (stands : ℕ → Bool) (i : ℕ) : Type 0 where
+    pub kind : e .kind ≡ k
+    pub there : i < n
+    pub own : stands i ≡ true
+
+  abbrev pub Grounds : Outcome → Type 0  -- a refusal needs none: it changes nothing
+  Grounds (Refuse r) = Unit {0}
+  Grounds (Do Seize i) = Seizes i
+  Grounds (Do Reserve i) = Reserves i
+  Grounds (Do Release i) = Empties 2 Held i
+  Grounds (Do Cancel i) = Empties 4 Reserved i
+  Grounds Clock = e .kind ≡ 5
+
+  by-choice : (y : ℕ → Outcome) (z : Outcome) → ((i : ℕ) → i < n → Open i → Grounds (y i)) → Grounds z → Grounds (found (choice x n (e .mark)) y z)
+  by-choice y z g h = go (choice x n (e .mark)) (choice-is x n (e .mark))
+    where
+      go : (r : Found) → ChoiceIs x n (e .mark) r → Grounds (found r y z)
+      go (At i) k = g i (k .0) (⊎-elim (λ f. inl (f .0)) (λ t. inr (t .1)) (k .1))
+      go Nothing k = h
+
+  by-set-up : e .kind ≡ 1 → marked e ≡ true → Grounds (setUp x n e)
+  unfolding setUp heldBy reservedBy onReservation
+  by-set-up k m =
+      by-first Grounds Held n (λ i. Refuse AlreadyThere) _ (λ i l h. tt)
+      (λ a.
+      by-first Grounds Reserved n _ _
+      (λ i l h.
+      by-test Grounds (sameMark (e .mark) (x i .reservation .mark)) _ (Refuse MarkDiffers)
+      (λ q. by-test Grounds (HolderLower i) (Do Seize i) (Refuse HolderNotLower) (λ r. record { set-up = k; well-marked = m; there = l; given = inl (h, r) }) (λ r. tt))
+      (λ q. tt))
+      (λ b. by-choice (Do Seize) (Refuse (blocked e)) (λ i l o. record { set-up = k; well-marked = m; there = l; given = inr (o, (a, b)) }) tt))
+
+  by-look-ahead : e .kind ≡ 3 → marked e ≡ true → Grounds (lookAhead x n e)
+  unfolding lookAhead heldBy reservedBy
+  by-look-ahead k m =
+      by-test Grounds (eqb (e .lfb) allowed) _ (Refuse NotAllowed)
+      (λ q.
+      by-test Grounds (not (isRoutine (e .mark .level))) _ (Refuse ByRoutine)
+      (λ q.
+      by-first Grounds Held n (λ i. Refuse AlreadyThere) _ (λ i l h. tt)
+      (λ a.
+      by-first Grounds Reserved n (λ i. Refuse AlreadyThere) _ (λ i l h. tt)
+      (λ b. by-choice (Do Reserve) (Refuse NoCircuitToReserve) (λ i l o. record { look-ahead = k; well-marked = m; there = l; given = (o, (a, b)) }) tt)))
+      (λ q. tt))
+      (λ q. tt)
+
+  pub grounds : wellFormed e ≡ true → Grounds (decision x n e)
+  unfolding wellFormed decision release cancel heldBy reservedBy
+  grounds =
+      by-kind Grounds (eqb (e .kind) 1) (marked e) _ (setUp x n e) _ (λ k m. by-set-up (eqb-true (e .kind) 1 k) m)
+      (by-kind Grounds (eqb (e .kind) 2) (e .plain) _ (release x n e) _
+      (λ k m. by-first Grounds Held n (Do Release) (Refuse NotThere) (λ i l h. record { kind = eqb-true (e .kind) 2 k; there = l; own = h }) (λ a. tt))
+      (by-kind Grounds (eqb (e .kind) 3) (marked e) _ (lookAhead x n e) _ (λ k m. by-look-ahead (eqb-true (e .kind) 3 k) m)
+      (by-kind Grounds (eqb (e .kind) 4) (e .plain) _ (cancel x n e) Clock
+      (λ k m. by-first Grounds Reserved n (Do Cancel) (Refuse NotThere) (λ i l h. record { kind = eqb-true (e .kind) 4 k; there = l; own = h }) (λ b. tt))
+      (λ w. by-so (eqb (e .kind) 5) (eqb-true (e .kind) 5) (λ k. absurd (true≢false (sym w ∙ ap (λ (b : Bool). cond b (e .plain && e .bare) false) k)))))))
+
+pub decided : {S : Type 0} (L : Layout S) (s : S) (e : Event) → Grounds (L .view s) (L .count s) e (decide L s e)
+unfolding decide
+decided L s e =
+    let P = Grounds (L .view s) (L .count s) e in
+    by-test P (wellFormed e) _ (Refuse Malformed)
+    (λ w. by-test P (valid L s) (decision (L .view s) (L .count s) e) (Refuse TableNotValid) (λ v. grounds (L .view s) (L .count s) e w) (λ v. tt))
+    (λ w. tt)
