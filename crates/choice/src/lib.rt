@@ -4,10 +4,10 @@ use rules::mark::Mark;
 use rules::part::Reference;
 use rules::search::Found;
 ghost use mathlib.Core.Path.{_≡_};
-ghost use Prim.Native.Nat.{_+_, _*_, _/_, _<_};
+ghost use Prim.Native.Nat.{_+_, _*_, _<_};
 ghost use Rattle.rules.specs.Search.{firstTo};
 ghost use Rattle.rules.specs.Circuit.{isOf, rank};
-ghost use Rattle.rules.specs.Valid.{partNo};
+ghost use Rattle.rules.specs.Valid.{partNumbered};
 ghost use Rattle.rules.specs.Records.{circuits, circuitAt};
 ghost use Rattle.rules.specs.Choice.{choice, heldBy, reservedBy};
 ghost use Rattle.choice.specs.Best.{improved, foundIn};
@@ -67,14 +67,14 @@ pub fn choose(t: &[u8], by: Mark) -> Found
 }
 
 // The circuit on which the call with this reference stands: on side 0 the holders, on side 1 the reservations.
-fn standing(t: &[u8], reference: Reference, side: usize) -> Found
+fn circuit_of(t: &[u8], reference: Reference, side: usize) -> Found
     requires { ⌜ side < 2 ⌝ }
-    ensures { λ r. ⌜ r ≡ firstTo (λ i. isOf reference (partNo (circuitAt (now (t .entry))) (2 * i + side))) (circuits (now (t .entry))) ⌝ }
+    ensures { λ r. ⌜ r ≡ firstTo (λ i. isOf reference (partNumbered (circuitAt (now (t .entry))) (2 * i + side))) (circuits (now (t .entry))) ⌝ }
 {
     let n = table::count(t);
     let mut i = 0;
     while i < n {
-        if table::part_no(t, 2 * i + side).is_of(reference) {
+        if table::part_numbered(t, 2 * i + side).is_of(reference) {
             return Found::At(i);
         }
         i += 1;
@@ -86,12 +86,12 @@ fn standing(t: &[u8], reference: Reference, side: usize) -> Found
 pub fn held_by(t: &[u8], reference: Reference) -> Found
     ensures { λ r. ⌜ r ≡ heldBy (circuitAt (now (t .entry))) (circuits (now (t .entry))) reference ⌝ }
 {
-    standing(t, reference, 0)
+    circuit_of(t, reference, 0)
 }
 
 // The circuit that it has reserved.
 pub fn reserved_by(t: &[u8], reference: Reference) -> Found
     ensures { λ r. ⌜ r ≡ reservedBy (circuitAt (now (t .entry))) (circuits (now (t .entry))) reference ⌝ }
 {
-    standing(t, reference, 1)
+    circuit_of(t, reference, 1)
 }

@@ -8,8 +8,8 @@ use lib.Dec.{eqb}
 use borrow.Author.Tests.{eq-eqb}
 use Rattle.octets.proofs.Tests.{and-left, and-both, by-so, by-test}
 use Rattle.octets.proofs.Spans.{length-span, span-all}
-use Rattle.rules.specs.Numbers.{lengthWrong}
-use Rattle.rules.specs.Run.{after, answer, run, answers}
+use Rattle.rules.specs.Numbers.{wrongLength}
+use Rattle.rules.specs.Run.{after, answerRecord, run, answerRecords}
 use Rattle.rules.specs.Records.{records, tableLength, listLength}
 use Rattle.route.specs.Entries.{eventLengths, eventTable, eventAnswer, eventsTo, eventsIn, listLengths, listNumber, listTable, listAnswers}
 use Rattle.claims.specs.History.{Turn}
@@ -65,7 +65,7 @@ list-alone t k =
     by-so (listLengths t es room)
     (λ q. alone (turns t k) t (listTable t es room) (and-left (tableLength (length t)) (listLength (length es) (length room)) q) (sixteens t k) (list-ran t k))
     (λ q.
-    subst (λ (b : Bool). EventByEvent t (cond (eqb (cond b 0 lengthWrong) 0) (turnsTo es (listAnswers t es room) (length es / 16)) []) (cond b (run records t (eventsIn es)) t)) (sym q) refl)
+    subst (λ (b : Bool). EventByEvent t (cond (eqb (cond b 0 wrongLength) 0) (turnsTo es (listAnswers t es room) (length es / 16)) []) (cond b (run records t (eventsIn es)) t)) (sym q) refl)
 
 pub one-by-one : OneByOne
 one-by-one t [] = refl
@@ -89,6 +89,6 @@ pub list-of-one : ListOfOne
 unfolding listTable listAnswers eventTable eventAnswer flatten
 list-of-one t e place sixteen = (
   ap₂ (λ (b : Bool) (es : List (List ℕ)). cond b (run records t es) t) (same-lengths t e place sixteen) (its-event t e place sixteen),
-  ap₂ (λ (b : Bool) (es : List (List ℕ)). cond b (flatten (answers records t es)) place) (same-lengths t e place sixteen) (its-event t e place sixteen)
-      ∙ ap (λ (l : List ℕ). cond (eventLengths t e place) l place) (append-nil (answer records t e)),
+  ap₂ (λ (b : Bool) (es : List (List ℕ)). cond b (flatten (answerRecords records t es)) place) (same-lengths t e place sixteen) (its-event t e place sixteen)
+      ∙ ap (λ (l : List ℕ). cond (eventLengths t e place) l place) (append-nil (answerRecord records t e)),
 )

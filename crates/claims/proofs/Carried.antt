@@ -1,6 +1,6 @@
 -- A list is carried out exactly at right lengths.
-use Prim.Native.Nat.{ℕ, _/_, _%_, _≤_}
-use mathlib.Core.Path.{_≡_, refl, ap, _∙_}
+use Prim.Native.Nat.{ℕ, _/_, _%_, _≤_, _*_}
+use mathlib.Core.Path.{_≡_, refl, ap}
 use mathlib.Core.Bool.{Bool, true, false, cond, _&&_}
 use mathlib.Core.List.{List}
 use native.Mathlib.Omega.{arith}
@@ -8,7 +8,7 @@ use lib.ListN.{length}
 use lib.Dec.{eqb, leb}
 use borrow.Author.Tests.{eqb-true, leb-true, eq-eqb, le-leb}
 use Rattle.octets.proofs.Tests.{and-left, and-right, and-both}
-use Rattle.rules.specs.Records.{tableLength, listLength}
+use Rattle.rules.specs.Records.{tableLength, listLength, circuits, circuitSize, mostCircuits, eventSize, mostEvents, answerSize}
 use Rattle.route.specs.Entries.{listLengths, listNumber}
 use Rattle.claims.specs.OneByOne.{RightLengths, CarriedOut}
 
@@ -24,32 +24,32 @@ right-lengths : (t es places : List ℕ) → listLengths t es places ≡ true �
 unfolding listLengths tableLength listLength
 right-lengths t es places h =
     let halves = both (tableLength (length t)) (listLength (length es) (length places)) h in
-    let table = both (eqb (length t % 32) 0) (leb 1 (length t / 32) && leb (length t / 32) 256) (halves .0) in
-    let sizes = both (leb 1 (length t / 32)) (leb (length t / 32) 256) (table .1) in
-    let list = both (eqb (length es % 16) 0) (leb (length es / 16) 4096 && eqb (length places) (length es)) (halves .1) in
-    let rest = both (leb (length es / 16) 4096) (eqb (length places) (length es)) (list .1) in
-    let some = leb-true 1 (length t / 32) (sizes .0) in
-    let most = leb-true (length t / 32) 256 (sizes .1) in
-    let whole = eqb-true (length t % 32) 0 (table .0) in
-    let events = eqb-true (length es % 16) 0 (list .0) in
-    let many = leb-true (length es / 16) 4096 (rest .0) in
+    let table = both (eqb (length t % circuitSize) 0) (leb 1 (circuits t) && leb (circuits t) mostCircuits) (halves .0) in
+    let sizes = both (leb 1 (circuits t)) (leb (circuits t) mostCircuits) (table .1) in
+    let list = both (eqb (length es % eventSize) 0) (leb (length es / eventSize) mostEvents && eqb (length places) (answerSize * (length es / eventSize))) (halves .1) in
+    let rest = both (leb (length es / eventSize) mostEvents) (eqb (length places) (answerSize * (length es / eventSize))) (list .1) in
+    let some = leb-true 1 (circuits t) (sizes .0) in
+    let most = leb-true (circuits t) mostCircuits (sizes .1) in
+    let whole = eqb-true (length t % circuitSize) 0 (table .0) in
+    let events = eqb-true (length es % eventSize) 0 (list .0) in
+    let many = leb-true (length es / eventSize) mostEvents (rest .0) in
     record {
       circuits = whole;
       some = omega arith;
       most = omega arith;
       events = events;
       many = omega arith;
-      answers = eqb-true (length places) (length es) (rest .1);
+      answers = eqb-true (length places) (answerSize * (length es / eventSize)) (rest .1);
     }
 
 lengths-right : (t es places : List ℕ) → RightLengths t es places → listLengths t es places ≡ true
 unfolding listLengths tableLength listLength
 lengths-right t es places r =
-    let some : 1 ≤ length t / 32 = omega (arith, r .some) in
-    let most : length t / 32 ≤ 256 = omega (arith, r .most) in
-    let many : length es / 16 ≤ 4096 = omega (arith, r .many) in
-    and-both _ _ (and-both _ _ (eq-eqb (length t % 32) 0 (r .circuits)) (and-both _ _ (le-leb 1 (length t / 32) some) (le-leb (length t / 32) 256 most)))
-    (and-both _ _ (eq-eqb (length es % 16) 0 (r .events)) (and-both _ _ (le-leb (length es / 16) 4096 many) (eq-eqb (length places) (length es) (r .answers))))
+    let some : 1 ≤ circuits t = omega (arith, r .some) in
+    let most : circuits t ≤ mostCircuits = omega (arith, r .most) in
+    let many : length es / eventSize ≤ mostEvents = omega (arith, r .many) in
+    and-both _ _ (and-both _ _ (eq-eqb (length t % circuitSize) 0 (r .circuits)) (and-both _ _ (le-leb 1 (circuits t) some) (le-leb (circuits t) mostCircuits most)))
+    (and-both _ _ (eq-eqb (length es % eventSize) 0 (r .events)) (and-both _ _ (le-leb (length es / eventSize) mostEvents many) (eq-eqb (length places) (answerSize * (length es / eventSize)) (r .answers))))
 
 pub carried-out : CarriedOut
 unfolding listNumber

@@ -7,15 +7,15 @@ use lib.ListN.{length}
 use Rattle.octets.proofs.Tests.{by-so}
 use Rattle.rules.specs.declared.verdict.Verdict.{Verdict}
 use Rattle.rules.specs.declared.verdict.Verdict.the-variants.{Valid, Fault}
-use Rattle.rules.specs.Numbers.{lengthWrong}
+use Rattle.rules.specs.Numbers.{wrongLength}
 use Rattle.rules.specs.Valid.{isValid, verdictNumber, verdict, valid}
 use Rattle.rules.specs.Run.{after, run}
-use Rattle.rules.specs.Records.{records, tableLength, checkNumber}
+use Rattle.rules.specs.Records.{records, tableLength, checkNumber, emptyTable}
 use Rattle.rules.proofs.Records.{lawful}
 use Rattle.rules.proofs.Kept.{valid-after, run-valid}
 use Rattle.route.specs.Entries.{eventLengths, eventsIn, listLengths, listTable}
 use Rattle.route.proofs.Whole.{no-event}
-use Rattle.claims.specs.Lists.{emptyTable, tableAfter}
+use Rattle.claims.specs.Lists.{tableAfter}
 use Rattle.claims.specs.OneByOne.{EventKeepsValid, ListKeepsValid, AlwaysValid}
 use Rattle.claims.proofs.Octets.{length-after, length-run}
 use Rattle.claims.proofs.Refused.{table-then}
@@ -30,7 +30,7 @@ same-number (Fault r i) (Fault s j) h = refl
 check-same : (t u : List ℕ) → length u ≡ length t → valid records u ≡ valid records t → checkNumber u ≡ checkNumber t
 unfolding checkNumber valid
 check-same t u l v =
-    ap₂ (λ (n k : ℕ). cond (tableLength n) k lengthWrong) l (same-number (verdict records u) (verdict records t) v)
+    ap₂ (λ (n k : ℕ). cond (tableLength n) k wrongLength) l (same-number (verdict records u) (verdict records t) v)
 
 pub event-keeps-valid : EventKeepsValid
 event-keeps-valid t e place =
@@ -51,5 +51,5 @@ unfolding checkNumber valid
 always-valid n one many lists =
     let t = emptyTable n in
     let u = tableAfter t lists in
-    ap₂ (λ (b : Bool) (k : ℕ). cond b k lengthWrong) (table-length u n (now-long n lists) one many)
+    ap₂ (λ (b : Bool) (k : ℕ). cond b k wrongLength) (table-length u n (now-long n lists) one many)
     (same-number (verdict records u) Valid (now n lists .still-valid))

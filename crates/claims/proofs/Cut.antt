@@ -10,43 +10,40 @@ use lib.Seq.{getD-append-add}
 use lib.Dec.{eqb}
 use Rattle.octets.specs.Span.{span}
 use Rattle.octets.proofs.Spans.{grow, span-cong, span-all}
-use Rattle.rules.specs.Numbers.{lengthWrong}
-use Rattle.rules.specs.Run.{answer}
-use Rattle.rules.specs.Records.{records}
+use Rattle.rules.specs.Numbers.{wrongLength}
+use Rattle.rules.specs.Run.{answerRecord}
+use Rattle.rules.specs.Records.{records, eventSize, answerSize, eventIn, answerIn}
 use Rattle.rules.proofs.Kept.{run-append}
 use Rattle.route.specs.Entries.{eventsTo, eventsIn, listLengths, listNumber, listTable, listAnswers}
-use Rattle.route.proofs.Listed.{length-answer, ran, told, told-next, told-length}
+use Rattle.route.proofs.Listed.{length-answer, ran, given, answers-next, answers-length}
 use Rattle.claims.specs.History.{Turn}
 use Rattle.claims.specs.Lists.{EventList, turnsTo, turns, tableAfter, past}
 use Rattle.claims.proofs.Ran.{Ran, ran-append}
 
--- ---- one list: table t, events es; `ran` and `told` are the table and the answers after some of them
+-- ---- one list: table t, events es; `ran` and `given` are the table and the answers after some of them
 module _ (t es : List ℕ) where
-  abbrev eventNo : ℕ → List ℕ
-  eventNo m = span es (16 * m) 16
-
   -- answer m of n
-  answer-at : (n m : ℕ) → m < n → span (told t es n) (16 * m) 16 ≡ answer records (ran t es m) (eventNo m)
+  answer-at : (n m : ℕ) → m < n → answerIn (given t es n) m ≡ answerRecord records (ran t es m) (eventIn es m)
   answer-at zero m l = absurd (not-suc-le-zero l)
   answer-at (suc n) m l =
-      let a = answer records (ran t es n) (eventNo n) in
-      ap (λ (r : List ℕ). span r (16 * m) 16) (sym (told-next t es n))
-      ∙ grow (λ (j : ℕ). span (told t es n ++ a) (16 * j) 16 ≡ answer records (ran t es j) (eventNo j)) n
+      let a = answerRecord records (ran t es n) (eventIn es n) in
+      ap (λ (r : List ℕ). answerIn r m) (sym (answers-next t es n))
+      ∙ grow (λ (j : ℕ). answerIn (given t es n ++ a) j ≡ answerRecord records (ran t es j) (eventIn es j)) n
       (λ j b.
-      span-cong (told t es n ++ a) (16 * j) (told t es n) (16 * j) 16
-      (λ k d. List·getD-append (told t es n) a 0 (16 * j + k) (omega (arith, told-length t es n)))
+      span-cong (given t es n ++ a) (answerSize * j) (given t es n) (answerSize * j) answerSize
+      (λ k d. List·getD-append (given t es n) a 0 (answerSize * j + k) (omega (arith, answers-length t es n)))
       ∙ answer-at n j b)
-      (span-cong (told t es n ++ a) (16 * n) a 0 16
+      (span-cong (given t es n ++ a) (answerSize * n) a 0 answerSize
       (λ k d.
-      ap (λ (i : ℕ). getD (told t es n ++ a) (i + k) 0) (sym (told-length t es n))
-      ∙ getD-append-add (told t es n) a k 0 ∙ ap (λ (i : ℕ). getD a i 0) (sym (zero-add k)))
-      ∙ span-all a 16 (length-answer (ran t es n) (eventNo n)))
+      ap (λ (i : ℕ). getD (given t es n ++ a) (i + k) 0) (sym (answers-length t es n))
+      ∙ getD-append-add (given t es n) a k 0 ∙ ap (λ (i : ℕ). getD a i 0) (sym (zero-add k)))
+      ∙ span-all a answerSize (length-answer (ran t es n) (eventIn es n)))
       m l
 
-  ran-to : (n m : ℕ) → m ≤ n → Ran t (turnsTo es (told t es n) m) (ran t es m)
+  ran-to : (n m : ℕ) → m ≤ n → Ran t (turnsTo es (given t es n) m) (ran t es m)
   ran-to n zero l = refl
   ran-to n (suc m) l =
-      ran-append (turnsTo es (told t es n) m) (record { event = eventNo m; answer = span (told t es n) (16 * m) 16 } ∷ []) t (ran t es m) (ran t es (suc m)) (ran-to n m (omega arith)) (answer-at n m l, sym (run-append records (eventsTo es m) (eventNo m ∷ []) t))
+      ran-append (turnsTo es (given t es n) m) (record { event = eventIn es m; answer = answerIn (given t es n) m } ∷ []) t (ran t es m) (ran t es (suc m)) (ran-to n m (omega arith)) (answer-at n m l, sym (run-append records (eventsTo es m) (eventIn es m ∷ []) t))
 
 -- ---- lists
 pub list-ran : (t : List ℕ) (k : EventList) → Ran t (turns t k) (listTable t (k .events) (k .places))
@@ -57,9 +54,9 @@ list-ran t k = go (listLengths t es (k .places))
     es = k .events
 
     n : ℕ
-    n = length es / 16
+    n = length es / eventSize
 
-    go : (b : Bool) → Ran t (cond (eqb (cond b 0 lengthWrong) 0) (turnsTo es (cond b (told t es n) (k .places)) n) []) (cond b (ran t es n) t)
+    go : (b : Bool) → Ran t (cond (eqb (cond b 0 wrongLength) 0) (turnsTo es (cond b (given t es n) (k .places)) n) []) (cond b (ran t es n) t)
     go true = ran-to t es n n (omega arith)
     go false = refl
 
@@ -69,11 +66,11 @@ past-ran (k ∷ ks) t =
     let u = listTable t (k .events) (k .places) in
     ran-append (turns t k) (past u ks) t u (tableAfter u ks) (list-ran t k) (past-ran ks u)
 
--- a list that is carried out leaves 16 octets for each event
-pub length-left : (t es places : List ℕ) → listLengths t es places ≡ true → length (listAnswers t es places) ≡ 16 * (length es / 16)
+-- a list that is carried out leaves the octets of an answer for each event
+pub length-left : (t es places : List ℕ) → listLengths t es places ≡ true → length (listAnswers t es places) ≡ answerSize * (length es / eventSize)
 unfolding listAnswers eventsIn
 length-left t es places h =
-    ap (λ (b : Bool). length (cond b (told t es (length es / 16)) places)) h ∙ told-length t es (length es / 16)
+    ap (λ (b : Bool). length (cond b (given t es (length es / eventSize)) places)) h ∙ answers-length t es (length es / eventSize)
 
 -- lists, and one more
 pub past-append : (ks ls : List EventList) (t : List ℕ) → past t (ks ++ ls) ≡ past t ks ++ past (tableAfter t ks) ls

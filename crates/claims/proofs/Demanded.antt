@@ -10,12 +10,11 @@ use borrow.Author.Tests.{eq-eqb, le-leb}
 use Rattle.octets.proofs.Tests.{and-both}
 use Rattle.octets.proofs.Spans.{span-all}
 use Rattle.rules.specs.declared.circuit.Circuit.{Circuit}
-use Rattle.rules.specs.Numbers.{lengthWrong}
-use Rattle.rules.specs.Run.{answer}
-use Rattle.rules.specs.Records.{circuitAt, eventAt, tableLength, listLength}
+use Rattle.rules.specs.Numbers.{wrongLength}
+use Rattle.rules.specs.Records.{circuitAt, eventAt, tableLength, listLength, circuits, emptyTable}
 use Rattle.route.specs.Entries.{listLengths, listNumber, listAnswers}
-use Rattle.claims.specs.History.{Turn, asked, empty, heard, historyFrom, history}
-use Rattle.claims.specs.Lists.{EventList, emptyTable, turnsTo, turns, tableAfter, past}
+use Rattle.claims.specs.History.{Turn, asked, empty, afterTurn, historyFrom, history}
+use Rattle.claims.specs.Lists.{EventList, turnsTo, turns, tableAfter, past}
 use Rattle.claims.specs.Demand.{HistoryTells, NewSetUp, Answered, Demand3, Demand3Within}
 use Rattle.claims.proofs.Ran.{Ran, Shown, shown}
 use Rattle.claims.proofs.Cut.{past-ran, length-left, past-append}
@@ -50,9 +49,9 @@ history-tells n lists c l = now n lists .tells c (omega (arith, start-count n))
 -- ---- one turn more
 history-append : (ps qs : List Turn) (y : Circuit) (c : ℕ) → historyFrom y (ps ++ qs) c ≡ historyFrom (historyFrom y ps c) qs c
 history-append [] qs y c = refl
-history-append (p ∷ ps) qs y c = history-append ps qs (heard p c y) c
+history-append (p ∷ ps) qs y c = history-append ps qs (afterTurn p c y) c
 
-pub history-then : (ps : List Turn) (p : Turn) → history (ps ++ p ∷ []) ≡ (λ c. heard p c (history ps c))
+pub history-then : (ps : List Turn) (p : Turn) → history (ps ++ p ∷ []) ≡ (λ c. afterTurn p c (history ps c))
 history-then ps p = λ d c. history-append ps (p ∷ []) empty c d
 
 -- a past taken apart was still run
@@ -63,7 +62,7 @@ ran-split n lists ps split =
 pub demand-3-within : Demand3Within
 demand-3-within n lists before p later split new =
     subst (λ (y : ℕ → Circuit). Answered n (history before) y (asked p) (p .answer)) (sym (history-then before p))
-    (subst (λ (m : ℕ). NewSetUp m (history before) (asked p) → Answered m (history before) (λ c. heard p c (history before c)) (asked p) (p .answer)) (start-count n)
+    (subst (λ (m : ℕ). NewSetUp m (history before) (asked p) → Answered m (history before) (λ c. afterTurn p c (history before c)) (asked p) (p .answer)) (start-count n)
     (served-within (emptyTable n) (start-valid n) (λ c. empty) (start-shows n) before p later (tableAfter (emptyTable n) lists) (ran-split n lists (before ++ p ∷ later) split)) new)
 
 -- ---- the next list, of one event
@@ -74,7 +73,7 @@ module _ (t e place : List ℕ) (sixteen : length e ≡ 16) where
   one-turn : listLengths t e place ≡ true → turns t (record { events = e; places = place }) ≡ next ∷ []
   unfolding turns listNumber
   one-turn h =
-      ap (λ (b : Bool). cond (eqb (cond b 0 lengthWrong) 0) (turnsTo e (listAnswers t e place) (length e / 16)) []) h
+      ap (λ (b : Bool). cond (eqb (cond b 0 wrongLength) 0) (turnsTo e (listAnswers t e place) (length e / 16)) []) h
       ∙ ap (λ (m : ℕ). turnsTo e (listAnswers t e place) (m / 16)) sixteen
       ∙ (λ d.
       record {
@@ -87,8 +86,8 @@ module _ (t e place : List ℕ) (sixteen : length e ≡ 16) where
 pub table-length : (t : List ℕ) (n : ℕ) → length t ≡ 32 * n → 1 ≤ n → n ≤ 256 → tableLength (length t) ≡ true
 unfolding tableLength
 table-length t n long one many =
-    and-both (eqb (length t % 32) 0) (leb 1 (length t / 32) && leb (length t / 32) 256) (eq-eqb (length t % 32) 0 (omega arith))
-    (and-both (leb 1 (length t / 32)) (leb (length t / 32) 256) (le-leb 1 (length t / 32) (omega arith)) (le-leb (length t / 32) 256 (omega arith)))
+    and-both (eqb (length t % 32) 0) (leb 1 (circuits t) && leb (circuits t) 256) (eq-eqb (length t % 32) 0 (omega arith))
+    (and-both (leb 1 (circuits t)) (leb (circuits t) 256) (le-leb 1 (circuits t) (omega arith)) (le-leb (circuits t) 256 (omega arith)))
 
 one-lengths : (t e place : List ℕ) → tableLength (length t) ≡ true → length e ≡ 16 → length place ≡ 16 → listLengths t e place ≡ true
 unfolding listLengths listLength

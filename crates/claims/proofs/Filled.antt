@@ -1,10 +1,9 @@
 -- An answer other than 2 and 4 names no loser.
-use Prim.Native.Nat.{ℕ, _/_, _<_}
+use Prim.Native.Nat.{ℕ, _<_}
 use mathlib.Core.Path.{_≡_, refl, ap, ap₂, _∙_}
 use mathlib.Core.Logic.{_≢_}
 use mathlib.Core.Bool.{Bool, true, false, cond, _||_}
 use mathlib.Core.List.{List, _++_}
-use lib.ListN.{length}
 use Rattle.octets.specs.Span.{span}
 use Rattle.octets.proofs.Tests.{by-so, by-test}
 use Rattle.rules.specs.declared.part.Part.{Part}
@@ -17,8 +16,8 @@ use Rattle.rules.specs.declared.outcome.Outcome.the-variants.{Refuse, Do, Clock
 use Rattle.rules.specs.Circuit.{nobody, isOf}
 use Rattle.rules.specs.Answer.{anothers, answerOf}
 use Rattle.rules.specs.Valid.{valid}
-use Rattle.rules.specs.Run.{decide, answered, answer}
-use Rattle.rules.specs.Records.{circuitAt, loser, eventAt, records}
+use Rattle.rules.specs.Run.{outcomeOf, answered, answerRecord}
+use Rattle.rules.specs.Records.{circuitAt, loser, eventAt, records, circuits, lostCall, lostReservation}
 use Rattle.rules.proofs.Lawful.{Tidy}
 use Rattle.rules.proofs.Records.{lawful}
 use Rattle.rules.proofs.Faults.{valid-facts}
@@ -56,16 +55,16 @@ unfolding records answered answerOf
 answered-no-loser t e a b =
     by-so (valid records t)
     (λ v.
-    no-loser (circuitAt t) (length t / 32) (λ i l. lawful .tidy-view t i (valid-facts records t v .blank i l)) (eventAt e) (decide records t (eventAt e)) (decided records t (eventAt e)) a b)
+    no-loser (circuitAt t) (circuits t) (λ i l. lawful .tidy-view t i (valid-facts records t v .blank i l)) (eventAt e) (outcomeOf records t (eventAt e)) (decided records t (eventAt e)) a b)
     (λ v.
-    let r = ap (answerOf (circuitAt t) (length t / 32) (eventAt e)) (not-valid-refused records t (eventAt e) v) in
+    let r = ap (answerOf (circuitAt t) (circuits t) (eventAt e)) (not-valid-refused records t (eventAt e) v) in
     (ap (λ (z : Answer). z .call) r, ap (λ (z : Answer). z .reservation) r))
 
 pub only-two-and-four : OnlyTwoAndFour
-unfolding records answer
+unfolding records answerRecord
 only-two-and-four t e place two four right =
     let q = lengths-right t e place right in
     let k = number-then t e place q in
     let none = answered-no-loser t e (λ z. two (k ∙ z)) (λ z. four (k ∙ z)) in
-    ap (λ (l : List ℕ). span l 4 12) (answer-then t e place q)
-    ∙ ap₂ (λ (h r : Part). loser h ++ loser r) (none .0) (none .1)
+    let said = answer-then t e place q in
+    (ap lostCall said ∙ ap loser (none .0), ap lostReservation said ∙ ap loser (none .1))

@@ -1,10 +1,9 @@
 -- By which turn a holder goes.
-use Prim.Native.Nat.{ℕ, _+_, _*_, _/_, _<_}
+use Prim.Native.Nat.{ℕ, _+_, _*_, _<_}
 use mathlib.Core.Path.{_≡_, refl, sym, ap, _∙_}
 use mathlib.Core.Logic.{⊎-elim, inl}
 use mathlib.Core.Bool.{Bool, true, cond, _||_, not}
 use mathlib.Core.List.{List}
-use lib.ListN.{length}
 use lib.Dec.{eqb}
 use Rattle.octets.proofs.Tests.{by-test}
 use Rattle.octets.proofs.Width.{value-octets}
@@ -16,9 +15,9 @@ use Rattle.rules.specs.declared.outcome.Outcome.the-variants.{Refuse, Do, Clock
 use Rattle.rules.specs.Circuit.{outranks, made, overdue}
 use Rattle.rules.specs.Answer.{anothers, answerOf}
 use Rattle.rules.specs.Valid.{pairOk, valid}
-use Rattle.rules.specs.Records.{circuitAt, answerOctets, records}
+use Rattle.rules.specs.Records.{circuitAt, answerOctets, records, circuits, answerNumber, lostCall}
 use Rattle.rules.proofs.Faults.{valid-facts}
-use Rattle.claims.specs.History.{Turn, asked, answerNumber}
+use Rattle.claims.specs.History.{Turn, asked}
 use Rattle.claims.specs.Accidents.{HolderGoes, released, higher-set-up, HolderStays, NoHolderLost}
 use Rattle.claims.proofs.Plain.{Above, above-so}
 use Rattle.rules.proofs.Grounds.{Grounds}
@@ -30,7 +29,7 @@ module _ (t : List ℕ) (v : valid records t ≡ true) (p : Turn) where
   x = circuitAt t
 
   abbrev n : ℕ
-  n = length t / 32
+  n = circuits t
 
   abbrev e : Event
   e = asked p
@@ -46,7 +45,7 @@ module _ (t : List ℕ) (v : valid records t ≡ true) (p : Turn) where
       let above : Above (e .mark) (x i .holder .mark) = ⊎-elim (λ own. above-so (e .mark) (x i .holder .mark) (sym (ap (λ (b : Bool). not b || outranks (e .mark) (x i .holder .mark)) there) ∙ own .1)) (λ o. above-holder x n e i (o .0) (order i (r .there)) there) (r .given) in
       higher-set-up (r .set-up)
       (ap answerNumber a ∙ ap (λ (b : Bool). cond {A = ℕ} (b || anothers (e .reference) (x i .reservation) .present) 2 1) there)
-      (by-higher p _ a i (value-octets 1 i) (x i .holder) _ there (length-span t (32 * i + 7) 5) above refl)
+      (by-higher p _ a i (value-octets 1 i) (x i .holder) lostCall there (length-span t (32 * i + 7) 5) above refl)
 
   by-release : (i : ℕ) → Grounds x n e (Do Release i) → p .answer ≡ answerOctets (answerOf x n e (Do Release i)) → HolderGoes i (x i) p
   unfolding answerOf

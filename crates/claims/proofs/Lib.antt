@@ -1,4 +1,4 @@
-pub mod Heard
+pub mod Answers
 pub mod Octets
 pub mod Simulation
 pub mod Ran

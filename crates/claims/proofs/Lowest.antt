@@ -1,7 +1,7 @@
 -- ROUTINE is the lowest level that a valid table has, so nothing stands below it.
-use Prim.Native.Nat.{ℕ, _/_, _<_}
+use Prim.Native.Nat.{ℕ, _<_}
 use mathlib.Core.Path.{_≡_, refl, sym, ap, _∙_}
-use mathlib.Core.Bool.{Bool, true, false, cond, _&&_, _||_, not}
+use mathlib.Core.Bool.{Bool, true, false, cond, _||_, not}
 use mathlib.Core.List.{List}
 use native.Mathlib.Omega.{arith}
 use lib.ListN.{length}
@@ -13,17 +13,17 @@ use Rattle.rules.specs.declared.circuit.Circuit.{Circuit}
 use Rattle.rules.specs.declared.verdict.Verdict.{Verdict}
 use Rattle.rules.specs.declared.verdict.Verdict.the-variants.{Valid, Fault}
 use Rattle.rules.specs.Fields.{routine, levelOk}
-use Rattle.rules.specs.Numbers.{lengthWrong}
+use Rattle.rules.specs.Numbers.{wrongLength}
 use Rattle.rules.specs.Valid.{ifPresent, levelsOk, isValid, verdictNumber, verdict, valid}
 use Rattle.rules.specs.Records.{circuitAt, records, tableLength, checkNumber}
 use Rattle.rules.proofs.Faults.{valid-facts}
-use Rattle.claims.specs.Chosen.{Free, Lower, RoutineTakesNothing}
+use Rattle.claims.specs.Chosen.{Lower, RoutineTakesNothing}
 
 pub zero-valid : (t : List ℕ) → checkNumber t ≡ 0 → valid records t ≡ true
 unfolding checkNumber valid
 zero-valid t = go (tableLength (length t)) (verdict records t)
   where
-    go : (b : Bool) (v : Verdict) → cond b (verdictNumber v) lengthWrong ≡ 0 → isValid v ≡ true
+    go : (b : Bool) (v : Verdict) → cond b (verdictNumber v) wrongLength ≡ 0 → isValid v ≡ true
     go true Valid h = refl
     go true (Fault r i) h = absurd (omega arith)
     go false v h = absurd (omega arith)

@@ -9,31 +9,30 @@ use lib.Dec.{eqb}
 use Rattle.octets.specs.Span.{span, zeros}
 use Rattle.octets.proofs.Tests.{and-left, and-right}
 use Rattle.octets.proofs.Spans.{length-span, zeros-all}
+use Rattle.rules.specs.declared.part.Part.{Part}
 use Rattle.rules.specs.declared.circuit.Circuit.{Circuit}
-use Rattle.rules.specs.Records.{circuitAt, blankPart, blankAt, records}
+use Rattle.rules.specs.Records.{circuitAt, zeroIfAbsent, blankAt, records, holderOctets, reservationOctets, spareOctets, emptyTable}
 use Rattle.rules.proofs.Faults.{valid-facts}
 use Rattle.claims.specs.History.{history}
-use Rattle.claims.specs.Lists.{emptyTable, tableAfter, past}
+use Rattle.claims.specs.Lists.{tableAfter, past}
 use Rattle.claims.specs.Accidents.{OnlyWithParty, NoMarkLeft}
 use Rattle.claims.proofs.Demanded.{now, now-count, history-tells}
 
--- a part of w octets whose flag is not 1 is zero
-zero-part : (t : List ℕ) (o w : ℕ) → blankPart t o w ≡ true → eqb (getD t o 0) 1 ≡ false → span t o w ≡ replicate w 0
-zero-part t o w h q =
-    zeros-all (span t o w) (sym (ap (λ (b : Bool). cond b true (zeros (span t o w))) q) ∙ h)
-    ∙ ap (λ (n : ℕ). replicate n 0) (length-span t o w)
+-- an absent part is zero in every octet
+zero-part : (p : Part) (octets : List ℕ) → zeroIfAbsent p octets ≡ true → p .present ≡ false → zeros octets ≡ true
+zero-part p octets h q = sym (ap (λ (b : Bool). cond b true (zeros octets)) q) ∙ h
 
 only-with-party : (t : List ℕ) (c : ℕ) (y : Circuit) → blankAt t c ≡ true → circuitAt t c ≡ y → OnlyWithParty t c y
 unfolding blankAt
 only-with-party t c y h s =
-    let a = blankPart t (32 * c) 12 in
-    let b = blankPart t (32 * c + 12) 16 in
-    let z = zeros (span t (32 * c + 28) 4) in
-    let ab = and-left (a && b) z h in
+    let x = circuitAt t c in
+    let a = zeroIfAbsent (x .holder) (holderOctets t c) in
+    let b = zeroIfAbsent (x .reservation) (reservationOctets t c) in
+    let rest = and-right a (b && zeros (spareOctets t c)) h in
     record {
       shows = s;
-      no-holder = λ q. zero-part t (32 * c) 12 (and-left a b ab) (ap (λ (k : Circuit). k .holder .present) s ∙ q);
-      no-reservation = λ q. zero-part t (32 * c + 12) 16 (and-right a b ab) (ap (λ (k : Circuit). k .reservation .present) s ∙ q);
+      no-holder = λ q. zero-part (x .holder) (holderOctets t c) (and-left a _ h) (ap (λ (k : Circuit). k .holder .present) s ∙ q);
+      no-reservation = λ q. zero-part (x .reservation) (reservationOctets t c) (and-left b _ rest) (ap (λ (k : Circuit). k .reservation .present) s ∙ q);
     }
 
 pub no-mark-left : NoMarkLeft

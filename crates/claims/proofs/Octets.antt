@@ -1,5 +1,5 @@
 -- The number of an answer, and the length of a table after an event.
-use Prim.Native.Nat.{ℕ, zero, suc, _/_}
+use Prim.Native.Nat.{ℕ, zero, suc}
 use mathlib.Core.Path.{_≡_, refl, _∙_}
 use mathlib.Core.List.{List, [], _∷_}
 use lib.ListN.{length}
@@ -11,12 +11,11 @@ use Rattle.rules.specs.declared.outcome.Act.the-variants.{Cancel}
 use Rattle.rules.specs.declared.outcome.Outcome.{Outcome}
 use Rattle.rules.specs.declared.outcome.Outcome.the-variants.{Refuse, Do, Clock}
 use Rattle.rules.specs.Circuit.{overdue, made}
-use Rattle.rules.specs.Run.{decide, sweepTo, effect, after, answered, answer, run}
-use Rattle.rules.specs.Records.{circuitAt, circuitOctets, putCircuit, eventAt, records}
-use Rattle.claims.specs.History.{answerNumber}
+use Rattle.rules.specs.Run.{outcomeOf, sweepTo, effect, after, answered, answerRecord, run}
+use Rattle.rules.specs.Records.{circuitAt, circuitOctets, putCircuit, eventAt, records, circuits, answerNumber}
 
-pub answer-number : (t e : List ℕ) → answerNumber (answer records t e) ≡ answered records t e .number
-unfolding answer records
+pub answer-number : (t e : List ℕ) → answerNumber (answerRecord records t e) ≡ answered records t e .number
+unfolding answerRecord records
 answer-number t e = refl
 
 -- ---- a table keeps its length
@@ -35,11 +34,11 @@ length-effect : (t : List ℕ) (e : Event) (o : Outcome) → length (effect reco
 unfolding effect records
 length-effect t e (Refuse r) = refl
 length-effect t e (Do a i) = length-circuit t i (made e a (circuitAt t i))
-length-effect t e Clock = length-sweep t e (length t / 32)
+length-effect t e Clock = length-sweep t e (circuits t)
 
 pub length-after : (t e : List ℕ) → length (after records t e) ≡ length t
 unfolding after records
-length-after t e = length-effect t (eventAt e) (decide records t (eventAt e))
+length-after t e = length-effect t (eventAt e) (outcomeOf records t (eventAt e))
 
 pub length-run : (es : List (List ℕ)) (t : List ℕ) → length (run records t es) ≡ length t
 length-run [] t = refl

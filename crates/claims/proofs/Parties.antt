@@ -1,5 +1,5 @@
 -- A party in either part of a circuit: what it goes by; and what holds of one turn over a valid table holds at every turn of a past.
-use Prim.Native.Nat.{ℕ, _/_, _<_}
+use Prim.Native.Nat.{ℕ, _<_}
 use mathlib.Core.Path.{_≡_, sym, ap, ap₂, _∙_, subst}
 use mathlib.Core.Logic.{_⊎_, inl, inr}
 use mathlib.Core.Bool.{Bool, true, false, cond, _||_, not, true≢false}
@@ -19,31 +19,31 @@ use Rattle.rules.specs.declared.outcome.Outcome.{Outcome}
 use Rattle.rules.specs.Circuit.{isOf, outranks, standing, made}
 use Rattle.rules.specs.Answer.{becomes, answerOf}
 use Rattle.rules.specs.Valid.{pairOk, valid}
-use Rattle.rules.specs.Run.{decide, answered, answer}
-use Rattle.rules.specs.Records.{circuitAt, flag, loser, answerOctets, records}
-use Rattle.claims.specs.History.{Turn, asked, answerPlace, heard, empty, historyFrom, history}
-use Rattle.claims.specs.Lists.{emptyTable, tableAfter}
+use Rattle.rules.specs.Run.{outcomeOf, answered, answerRecord}
+use Rattle.rules.specs.Records.{circuitAt, flag, loser, answerOctets, records, circuits, answerDetail, emptyTable}
+use Rattle.claims.specs.History.{Turn, asked, afterTurn, empty, historyFrom, history}
+use Rattle.claims.specs.Lists.{tableAfter}
 use Rattle.claims.specs.Chosen.{Free}
 use Rattle.claims.specs.Accidents.{Own, Taken, StaysOrGoes}
-use Rattle.claims.proofs.Heard.{told-becomes}
+use Rattle.claims.proofs.Answers.{answer-tells}
 use Rattle.claims.proofs.Plain.{stands-in, free-so, Above, above-so, lower-so}
 use Rattle.rules.proofs.Grounds.{Open, Grounds, decided}
-use Rattle.claims.proofs.Ran.{Ran, heard-as-answered, stood}
+use Rattle.claims.proofs.Ran.{Ran, turn-as-answered, stood}
 use Rattle.claims.proofs.Start.{start-valid}
 use Rattle.claims.proofs.Demanded.{start-count, start-shows, history-then, ran-split}
 
 -- ---- what stands in part q of circuit i goes by turn p; l is the answer, which names the circuit
-module _ (p : Turn) (l : List ℕ) (a : p .answer ≡ l) (i : ℕ) (named : answerPlace l ≡ i) (q : Part) where
+module _ (p : Turn) (l : List ℕ) (a : p .answer ≡ l) (i : ℕ) (names : answerDetail l ≡ i) (q : Part) where
   pub by-own : (k : ℕ) → asked p .kind ≡ k → isOf (asked p .reference) q ≡ true → Own k i q p
-  by-own k h own = record { kind = h; party = stands-in (asked p .reference) q own; place = ap answerPlace a ∙ named }
+  by-own k h own = record { kind = h; party = stands-in (asked p .reference) q own; named = ap answerDetail a ∙ names }
 
-  pub by-higher : (o : ℕ) → q .present ≡ true → length (q .reference) ≡ 5 → Above (asked p .mark) (q .mark) → span l o 6 ≡ loser q → Taken o i q p
-  by-higher o there five h lost =
+  pub by-higher : (lost : List ℕ → List ℕ) → q .present ≡ true → length (q .reference) ≡ 5 → Above (asked p .mark) (q .mark) → lost l ≡ loser q → Taken lost i q p
+  by-higher lost there five h is =
       record {
         domain = h .0;
         level = h .1;
-        place = ap answerPlace a ∙ named;
-        loser = ap (λ (r : List ℕ). span r o 6) a ∙ lost ∙ ap₂ (λ (b : Bool) (r : List ℕ). flag b ∷ r) there (span-all (q .reference) 5 five);
+        named = ap answerDetail a ∙ names;
+        lost = ap lost a ∙ is ∙ ap₂ (λ (b : Bool) (r : List ℕ). flag b ∷ r) there (span-all (q .reference) 5 five);
       }
 
 -- ---- a call to which circuit i is open is above each party there
@@ -84,27 +84,27 @@ module _ (part : Circuit → Part) (stays : Circuit → Circuit → Type 0) (goe
   abbrev pub AtTurn : List ℕ → Turn → Type 0
   AtTurn t p =
       (c : ℕ) → part (circuitAt t c) .present ≡ true
-      → (o : Outcome) → Grounds (circuitAt t) (length t / 32) (asked p) o
-      → p .answer ≡ answerOctets (answerOf (circuitAt t) (length t / 32) (asked p) o)
+      → (o : Outcome) → Grounds (circuitAt t) (circuits t) (asked p) o
+      → p .answer ≡ answerOctets (answerOf (circuitAt t) (circuits t) (asked p) o)
       → stays (circuitAt t c) (becomes (asked p) o c (circuitAt t c)) ⊎ goes c (circuitAt t c) p
 
   module _ (at-turn : (t : List ℕ) → valid records t ≡ true → (p : Turn) → AtTurn t p) where
     -- what the history tells of a circuit that it showed as the table does
-    told-so : (t : List ℕ) → valid records t ≡ true → (p : Turn) → p .answer ≡ answer records t (p .event) → (c : ℕ) → part (circuitAt t c) .present ≡ true → stays (circuitAt t c) (heard p c (circuitAt t c)) ⊎ goes c (circuitAt t c) p
-    unfolding records answer answered
-    told-so t v p a c there =
+    turn-tells : (t : List ℕ) → valid records t ≡ true → (p : Turn) → p .answer ≡ answerRecord records t (p .event) → (c : ℕ) → part (circuitAt t c) .present ≡ true → stays (circuitAt t c) (afterTurn p c (circuitAt t c)) ⊎ goes c (circuitAt t c) p
+    unfolding records answerRecord answered
+    turn-tells t v p a c there =
         let x = circuitAt t in
-        let o = decide records t (asked p) in
-        subst (λ (z : Circuit). stays (x c) z ⊎ goes c (x c) p) (sym (heard-as-answered t p a c (x c) ∙ told-becomes x (length t / 32) (asked p) c o))
+        let o = outcomeOf records t (asked p) in
+        subst (λ (z : Circuit). stays (x c) z ⊎ goes c (x c) p) (sym (turn-as-answered t p a c (x c) ∙ answer-tells x (circuits t) (asked p) c o))
         (at-turn t v p c there o (decided records t (asked p)) a)
 
     -- from any valid table t, which shows circuits y
-    within : (t : List ℕ) → valid records t ≡ true → (y : ℕ → Circuit) → ((c : ℕ) → c < length t / 32 → circuitAt t c ≡ y c) → (before : List Turn) (p : Turn) (later : List Turn) (u : List ℕ) → Ran t (before ++ p ∷ later) u → (c : ℕ) → c < length t / 32 → part (historyFrom (y c) before c) .present ≡ true → stays (historyFrom (y c) before c) (heard p c (historyFrom (y c) before c)) ⊎ goes c (historyFrom (y c) before c) p
+    within : (t : List ℕ) → valid records t ≡ true → (y : ℕ → Circuit) → ((c : ℕ) → c < circuits t → circuitAt t c ≡ y c) → (before : List Turn) (p : Turn) (later : List Turn) (u : List ℕ) → Ran t (before ++ p ∷ later) u → (c : ℕ) → c < circuits t → part (historyFrom (y c) before c) .present ≡ true → stays (historyFrom (y c) before c) (afterTurn p c (historyFrom (y c) before c)) ⊎ goes c (historyFrom (y c) before c) p
     within t v y q before p later u ran c l there =
         let s = stood p later u before t v y q ran in
         let f = s .shows .tells c l in
-        subst (λ (z : Circuit). stays z (heard p c z) ⊎ goes c z p) f
-        (told-so (s .table) (s .shows .still-valid) p (s .answer) c (ap (λ (z : Circuit). part z .present) f ∙ there))
+        subst (λ (z : Circuit). stays z (afterTurn p c z) ⊎ goes c z p) f
+        (turn-tells (s .table) (s .shows .still-valid) p (s .answer) c (ap (λ (z : Circuit). part z .present) f ∙ there))
 
     pub stays-or-goes : StaysOrGoes part stays goes
     stays-or-goes n lists before p later split c l there =

@@ -1,11 +1,11 @@
 -- What a refusal leaves.
-use Prim.Native.Nat.{ℕ, _/_, _≤_}
+use Prim.Native.Nat.{ℕ, _≤_}
 use mathlib.Core.Path.{_≡_, refl, sym, ap, _∙_}
 use mathlib.Core.Logic.{_≢_}
 use mathlib.Core.Bool.{Bool, true, false, cond, _||_}
 use mathlib.Core.List.{List, _∷_}
 use native.Mathlib.Omega.{arith}
-use lib.ListN.{length, replicate}
+use lib.ListN.{replicate}
 use Rattle.octets.proofs.Tests.{by-so}
 use Rattle.rules.specs.declared.circuit.Circuit.{Circuit}
 use Rattle.rules.specs.declared.event.Event.{Event}
@@ -13,15 +13,14 @@ use Rattle.rules.specs.declared.outcome.Act.the-variants.{Seize, Reserve, Relea
 use Rattle.rules.specs.declared.outcome.Refusal.{Refusal}
 use Rattle.rules.specs.declared.outcome.Outcome.{Outcome}
 use Rattle.rules.specs.declared.outcome.Outcome.the-variants.{Refuse, Do, Clock}
-use Rattle.rules.specs.Numbers.{lengthWrong, causeOf}
+use Rattle.rules.specs.Numbers.{wrongLength, causeOf}
 use Rattle.rules.specs.Answer.{anothers, answerOf}
-use Rattle.rules.specs.Run.{decide, effect, after, answered, answer}
-use Rattle.rules.specs.Records.{circuitAt, eventAt, answerOctets, records}
+use Rattle.rules.specs.Run.{outcomeOf, effect, after, answered, answerRecord}
+use Rattle.rules.specs.Records.{circuitAt, eventAt, answerOctets, records, circuits, answerNumber, answerDetail}
 use Rattle.route.specs.Entries.{eventLengths, eventNumber, eventTable, eventAnswer, listLengths, listNumber}
 use Rattle.route.proofs.Whole.{no-event, no-list}
-use Rattle.claims.specs.History.{answerNumber, answerPlace}
 use Rattle.claims.specs.OneByOne.{ReturnsNumber, RefusalKeepsTable, RefusalAnswers, RefusalKeepsHistory, RefusedList}
-use Rattle.claims.proofs.Heard.{told-refused}
+use Rattle.claims.proofs.Answers.{after-refusal}
 use Rattle.claims.proofs.Octets.{answer-number}
 
 -- ---- one event
@@ -44,46 +43,46 @@ by-refusal x n e P g (Do Release i) h = absurd (omega arith)
 by-refusal x n e P g (Do Cancel i) h = absurd (omega arith)
 by-refusal x n e P g Clock h = absurd (omega arith)
 
-refused-effect : (t : List ℕ) (e : Event) (o : Outcome) → 20 ≤ answerOf (circuitAt t) (length t / 32) e o .number → effect records t e o ≡ t
+refused-effect : (t : List ℕ) (e : Event) (o : Outcome) → 20 ≤ answerOf (circuitAt t) (circuits t) e o .number → effect records t e o ≡ t
 unfolding effect
-refused-effect t e = by-refusal (circuitAt t) (length t / 32) e (λ o. effect records t e o ≡ t) (λ r. refl)
+refused-effect t e = by-refusal (circuitAt t) (circuits t) e (λ o. effect records t e o ≡ t) (λ r. refl)
 
 abbrev refusalOctets : ℕ → List ℕ
 refusalOctets k = k ∷ causeOf k ∷ 255 ∷ 255 ∷ replicate 12 0
 
-refused-octets : (t : List ℕ) (e : Event) (o : Outcome) → 20 ≤ answerOf (circuitAt t) (length t / 32) e o .number → answerOctets (answerOf (circuitAt t) (length t / 32) e o) ≡ refusalOctets (answerOf (circuitAt t) (length t / 32) e o .number)
+refused-octets : (t : List ℕ) (e : Event) (o : Outcome) → 20 ≤ answerOf (circuitAt t) (circuits t) e o .number → answerOctets (answerOf (circuitAt t) (circuits t) e o) ≡ refusalOctets (answerOf (circuitAt t) (circuits t) e o .number)
 unfolding answerOf
 refused-octets t e =
-    let a = answerOf (circuitAt t) (length t / 32) e in
-    by-refusal (circuitAt t) (length t / 32) e (λ o. answerOctets (a o) ≡ refusalOctets (a o .number)) (λ r. refl)
+    let a = answerOf (circuitAt t) (circuits t) e in
+    by-refusal (circuitAt t) (circuits t) e (λ o. answerOctets (a o) ≡ refusalOctets (a o .number)) (λ r. refl)
 
 refused-table : (t e : List ℕ) → 20 ≤ answered records t e .number → after records t e ≡ t
 unfolding answered after records
-refused-table t e = refused-effect t (eventAt e) (decide records t (eventAt e))
+refused-table t e = refused-effect t (eventAt e) (outcomeOf records t (eventAt e))
 
-refused-answer : (t e : List ℕ) → 20 ≤ answered records t e .number → answer records t e ≡ refusalOctets (answered records t e .number)
-unfolding answered answer records
-refused-answer t e = refused-octets t (eventAt e) (decide records t (eventAt e))
+refused-answer : (t e : List ℕ) → 20 ≤ answered records t e .number → answerRecord records t e ≡ refusalOctets (answered records t e .number)
+unfolding answered answerRecord records
+refused-answer t e = refused-octets t (eventAt e) (outcomeOf records t (eventAt e))
 
 -- what its three results are, by its lengths
 module _ (t e place : List ℕ) where
   pub lengths-right : eventNumber t e place ≢ 20 → eventLengths t e place ≡ true
   unfolding eventNumber
   lengths-right h =
-      by-so (eventLengths t e place) (λ q. q) (λ q. absurd (h (ap (λ (b : Bool). cond b (answered records t e .number) lengthWrong) q)))
+      by-so (eventLengths t e place) (λ q. q) (λ q. absurd (h (ap (λ (b : Bool). cond b (answered records t e .number) wrongLength) q)))
 
   module _ (q : eventLengths t e place ≡ true) where
     pub number-then : eventNumber t e place ≡ answered records t e .number
     unfolding eventNumber
-    number-then = ap (λ (b : Bool). cond b (answered records t e .number) lengthWrong) q
+    number-then = ap (λ (b : Bool). cond b (answered records t e .number) wrongLength) q
 
     pub table-then : eventTable t e place ≡ after records t e
     unfolding eventTable
     table-then = ap (λ (b : Bool). cond b (after records t e) t) q
 
-    pub answer-then : eventAnswer t e place ≡ answer records t e
+    pub answer-then : eventAnswer t e place ≡ answerRecord records t e
     unfolding eventAnswer
-    answer-then = ap (λ (b : Bool). cond b (answer records t e) place) q
+    answer-then = ap (λ (b : Bool). cond b (answerRecord records t e) place) q
 
 pub returns-number : ReturnsNumber
 returns-number t e place h =
@@ -101,12 +100,12 @@ refusal-answers t e place h =
     answer-then t e place q ∙ refused-answer t e (omega (arith, number-then t e place q)) ∙ ap refusalOctets (sym (number-then t e place q))
 
 pub refusal-keeps-history : RefusalKeepsHistory
-refusal-keeps-history p c y h = told-refused (eventAt (p .event)) (answerPlace (p .answer)) c y (answerNumber (p .answer)) (omega arith)
+refusal-keeps-history p c y h = after-refusal (eventAt (p .event)) (answerDetail (p .answer)) c y (answerNumber (p .answer)) (omega arith)
 
 -- ---- a list
 pub refused-list : RefusedList
 unfolding listNumber
 refused-list t es places h =
     by-so (listLengths t es places)
-    (λ q. absurd (let z = sym (ap (λ (b : Bool). cond {A = ℕ} b 0 lengthWrong) q) ∙ h in omega arith))
+    (λ q. absurd (let z = sym (ap (λ (b : Bool). cond {A = ℕ} b 0 wrongLength) q) ∙ h in omega arith))
     (λ q. let n = no-list t es places q .1 in (sym (n .0), sym (n .1)))

@@ -1,11 +1,10 @@
 -- The second accident cannot happen: by which turn a reservation goes.
-use Prim.Native.Nat.{ℕ, _+_, _*_, _/_}
+use Prim.Native.Nat.{ℕ, _+_, _*_}
 use mathlib.Core.Path.{_≡_, refl, sym, ap, _∙_, subst}
 use mathlib.Core.Logic.{⊎-elim, _⊎_, inl, inr}
 use mathlib.Core.Bool.{Bool, true, false, cond, _||_, true≢false}
 use mathlib.Core.List.{List}
 use native.Mathlib.Omega.{arith}
-use lib.ListN.{length}
 use lib.Dec.{eqb, leb}
 use borrow.Author.Tests.{leb-true, le-leb}
 use Rattle.octets.specs.Span.{span}
@@ -18,8 +17,8 @@ use Rattle.rules.specs.declared.outcome.Act.the-variants.{Seize, Reserve, Relea
 use Rattle.rules.specs.declared.outcome.Outcome.the-variants.{Refuse, Do, Clock}
 use Rattle.rules.specs.Circuit.{nobody, isOf, limit, age, made, overdue as isOverdue}
 use Rattle.rules.specs.Answer.{anothers, answerOf}
-use Rattle.rules.specs.Records.{circuitAt, loser, answerOctets}
-use Rattle.claims.specs.History.{Turn, asked, answerNumber, answerPlace, told, heard}
+use Rattle.rules.specs.Records.{circuitAt, loser, answerOctets, circuits, answerNumber, answerDetail, lostReservation}
+use Rattle.claims.specs.History.{Turn, asked, afterAnswer, afterTurn}
 use Rattle.claims.specs.Accidents.{Old, Goes, own-set-up, cancelled, higher-call, overdue, Stays, NoReservationLost, OldOnesGo}
 use Rattle.rules.proofs.Grounds.{Open, Grounds}
 use Rattle.claims.proofs.Parties.{by-own, by-higher, above-reservation, acted, AtTurn, stays-or-goes}
@@ -45,16 +44,16 @@ module _ (t : List ℕ) (p : Turn) where
   x = circuitAt t
 
   abbrev n : ℕ
-  n = length t / 32
+  n = circuits t
 
   abbrev e : Event
   e = asked p
 
   -- circuit i has a reservation
   module _ (i : ℕ) (there : x i .reservation .present ≡ true) where
-    by-taking : Open x n e i → (e .kind ≡ 1) ⊎ (e .kind ≡ 3) → (l : List ℕ) → p .answer ≡ l → answerPlace l ≡ i → span l 10 6 ≡ loser (x i .reservation) → Goes i (x i) p
+    by-taking : Open x n e i → (e .kind ≡ 1) ⊎ (e .kind ≡ 3) → (l : List ℕ) → p .answer ≡ l → answerDetail l ≡ i → lostReservation l ≡ loser (x i .reservation) → Goes i (x i) p
     by-taking o k l a named lost =
-        higher-call k (by-higher p l a i named (x i .reservation) _ there (length-span t (32 * i + 12 + 7) 5) (above-reservation x n e i o there) lost)
+        higher-call k (by-higher p l a i named (x i .reservation) lostReservation there (length-span t (32 * i + 12 + 7) 5) (above-reservation x n e i o there) lost)
 
     by-seizure : Grounds x n e (Do Seize i) → p .answer ≡ answerOctets (answerOf x n e (Do Seize i)) → Goes i (x i) p
     unfolding answerOf
@@ -92,11 +91,11 @@ pub no-reservation-lost : NoReservationLost
 no-reservation-lost = stays-or-goes (λ y. y .reservation) Stays Goes (λ t v. at-turn t)
 
 pub old-ones-go : OldOnesGo
-unfolding told
+unfolding afterAnswer
 old-ones-go p c y seven there =
     let e = asked p in
-    let said : heard p c y ≡ cond (isOverdue (e .clock) y) (made e Cancel y) y = ap (λ (k : ℕ). told e k (answerPlace (p .answer)) c y) seven in
-    let by : (b : Bool) → isOverdue (e .clock) y ≡ b → heard p c y ≡ cond b (made e Cancel y) y = λ b q. said ∙ ap (λ (z : Bool). cond z (made e Cancel y) y) q in (
+    let said : afterTurn p c y ≡ cond (isOverdue (e .clock) y) (made e Cancel y) y = ap (λ (k : ℕ). afterAnswer e k (answerDetail (p .answer)) c y) seven in
+    let by : (b : Bool) → isOverdue (e .clock) y ≡ b → afterTurn p c y ≡ cond b (made e Cancel y) y = λ b q. said ∙ ap (λ (z : Bool). cond z (made e Cancel y) y) q in (
       λ h. ap (λ (z : Circuit). z .reservation) (by true (old-overdue (e .clock) y there h)),
       λ h.
           let still = by false (not-so (isOverdue (e .clock) y) (λ q. h (overdue-old (e .clock) y q))) in

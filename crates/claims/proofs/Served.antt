@@ -24,19 +24,19 @@ use Rattle.rules.specs.Circuit.{isRoutine, nobody, isOf, made}
 use Rattle.rules.specs.Choice.{heldBy, reservedBy, choice}
 use Rattle.rules.specs.Decision.{unless, blocked, setUp, decision}
 use Rattle.rules.specs.Numbers.{refusalNumber, causeOf}
-use Rattle.rules.specs.Answer.{nowhere, noLoser, losers, anothers, answerOf}
+use Rattle.rules.specs.Answer.{noDetail, noLoser, losers, anothers, answerOf}
 use Rattle.rules.specs.Layout.{Layout}
 use Rattle.rules.specs.Valid.{valid}
-use Rattle.rules.specs.Run.{decide, answered, answer}
-use Rattle.rules.specs.Records.{circuitAt, flag, loser, answerOctets, records}
+use Rattle.rules.specs.Run.{outcomeOf, answered, answerRecord}
+use Rattle.rules.specs.Records.{circuitAt, flag, loser, answerOctets, records, circuits, answerNumber, answerDetail}
 use Rattle.rules.proofs.Lawful.{Tidy}
 use Rattle.rules.proofs.Records.{lawful}
 use Rattle.rules.proofs.Searches.{first-none}
 use Rattle.rules.proofs.Choice.{ChoiceIs, choice-is}
 use Rattle.rules.proofs.Faults.{valid-facts}
-use Rattle.claims.specs.History.{Turn, asked, answerNumber, answerPlace, told, heard, historyFrom}
+use Rattle.claims.specs.History.{Turn, asked, afterAnswer, afterTurn, historyFrom}
 use Rattle.claims.specs.Demand.{StandsIn, NewSetUp, ForWant, wantOctets, loserOctets, seizedOctets, Answered}
-use Rattle.claims.proofs.Heard.{told-refused, told-seized}
+use Rattle.claims.proofs.Answers.{after-refusal, after-seizure}
 use Rattle.claims.proofs.Ran.{Ran, stood}
 use Rattle.claims.proofs.Plain.{not-in, none-chosen, one-chosen, chosen-not-none}
 
@@ -56,14 +56,14 @@ module _ (x : ℕ → Circuit) (n : ℕ) (e : Event) (new : NewSetUp n x e) wher
   unfolding decision setUp
   new-decision = simp (new .set-up, no-holder, no-reservation)
 
-new-decided : {S : Type 0} (L : Layout S) (s : S) (e : Event) → valid L s ≡ true → NewSetUp (L .count s) (L .view s) e → decide L s e ≡ found (choice (L .view s) (L .count s) (e .mark)) (Do Seize) (Refuse (blocked e))
-unfolding decide
+new-decided : {S : Type 0} (L : Layout S) (s : S) (e : Event) → valid L s ≡ true → NewSetUp (L .count s) (L .view s) e → outcomeOf L s e ≡ found (choice (L .view s) (L .count s) (e .mark)) (Do Seize) (Refuse (blocked e))
+unfolding outcomeOf
 new-decided L s e v new =
     ap₂ (λ (a b : Bool). unless a Malformed (unless b TableNotValid (decision (L .view s) (L .count s) e))) (new .well-formed) v
     ∙ new-decision (L .view s) (L .count s) e new
 
 -- ---- the octets of the two answers
-want-octets : (b : Bool) → answerOctets (noLoser (refusalNumber (cond b NoCircuitForRoutine NoCircuit)) nowhere) ≡ wantOctets b
+want-octets : (b : Bool) → answerOctets (noLoser (refusalNumber (cond b NoCircuitForRoutine NoCircuit)) noDetail) ≡ wantOctets b
 want-octets true = refl
 want-octets false = refl
 
@@ -104,19 +104,19 @@ module _ (y : Circuit) (i : ℕ) (r : List ℕ) where
       cause false = refl
 
 -- ---- over a valid table t, circuit by circuit as x says; p is the set-up with its answer
-module _ (t : List ℕ) (v : valid records t ≡ true) (x : ℕ → Circuit) (q : (c : ℕ) → c < length t / 32 → circuitAt t c ≡ x c) (p : Turn) (told-so : p .answer ≡ answer records t (p .event)) where
+module _ (t : List ℕ) (v : valid records t ≡ true) (x : ℕ → Circuit) (q : (c : ℕ) → c < circuits t → circuitAt t c ≡ x c) (p : Turn) (turn-tells : p .answer ≡ answerRecord records t (p .event)) where
   abbrev n : ℕ
-  n = length t / 32
+  n = circuits t
 
   abbrev e : Event
   e = asked p
 
   abbrev then-shown : ℕ → Circuit
-  then-shown c = heard p c (x c)
+  then-shown c = afterTurn p c (x c)
 
   -- the history after an answer of which number and place are known
-  heard-by : (k i : ℕ) → answerNumber (p .answer) ≡ k → answerPlace (p .answer) ≡ i → (c : ℕ) → then-shown c ≡ told e k i c (x c)
-  heard-by k i a b c = ap₂ (λ (g h : ℕ). told e g h c (x c)) a b
+  heard-by : (k i : ℕ) → answerNumber (p .answer) ≡ k → answerDetail (p .answer) ≡ i → (c : ℕ) → then-shown c ≡ afterAnswer e k i c (x c)
+  heard-by k i a b c = ap₂ (λ (g h : ℕ). afterAnswer e g h c (x c)) a b
 
   seized : (i : ℕ) → ChoiceIs (circuitAt t) n (e .mark) (At i) → p .answer ≡ seizedOctets i (x i) → Answered n x then-shown e (p .answer)
   seized i h a =
@@ -130,8 +130,8 @@ module _ (t : List ℕ) (v : valid records t ≡ true) (x : ℕ → Circuit) (q 
               circuit = i;
               chosen = one;
               answer = a;
-              holds = after-seizure i ∙ ap (λ (b : Bool). cond b (made e Seize (x i)) (x i)) (eq-eqb i i refl);
-              others = λ c l ne. after-seizure c ∙ ap (λ (b : Bool). cond b (made e Seize (x c)) (x c)) (ne-eqb i c (λ z. ne (sym z)));
+              holds = shown-then i ∙ ap (λ (b : Bool). cond b (made e Seize (x i)) (x i)) (eq-eqb i i refl);
+              others = λ c l ne. shown-then c ∙ ap (λ (b : Bool). cond b (made e Seize (x c)) (x c)) (ne-eqb i c (λ z. ne (sym z)));
             };
       }
     where
@@ -141,16 +141,16 @@ module _ (t : List ℕ) (v : valid records t ≡ true) (x : ℕ → Circuit) (q 
       not-want : ForWant (p .answer) → ⊥
       not-want w = seized-number lost (subst ForWant a w)
 
-      after-seizure : (c : ℕ) → then-shown c ≡ cond (eqb i c) (made e Seize (x c)) (x c)
-      after-seizure c =
-          heard-by (cond lost 2 1) i (ap answerNumber a) (ap answerPlace a ∙ value-octets 1 i) c ∙ told-seized e i c (x c) lost
+      shown-then : (c : ℕ) → then-shown c ≡ cond (eqb i c) (made e Seize (x c)) (x c)
+      shown-then c =
+          heard-by (cond lost 2 1) i (ap answerNumber a) (ap answerDetail a ∙ value-octets 1 i) c ∙ after-seizure e i c (x c) lost
 
   refused : ChoiceIs (circuitAt t) n (e .mark) Nothing → p .answer ≡ wantOctets (isRoutine (e .mark .level)) → Answered n x then-shown e (p .answer)
   refused h a =
       let want : ForWant (p .answer) = subst ForWant (sym a) (want-number (isRoutine (e .mark .level))) in
       record {
         exactly = (λ w. none-chosen (circuitAt t) x n q (e .mark) h, λ g. want);
-        refused = λ w. (a, λ c l. told-refused e (answerPlace (p .answer)) c (x c) (answerNumber (p .answer)) (high want));
+        refused = λ w. (a, λ c l. after-refusal e (answerDetail (p .answer)) c (x c) (answerNumber (p .answer)) (high want));
         otherwise = λ g. absurd (g want);
       }
     where
@@ -159,8 +159,8 @@ module _ (t : List ℕ) (v : valid records t ≡ true) (x : ℕ → Circuit) (q 
       high (inr z) = omega arith
 
   served : NewSetUp n x e → Answered n x then-shown e (p .answer)
-  unfolding records answer answered answerOf
-  served new = go (choice X n (e .mark)) (choice-is X n (e .mark)) (told-so ∙ ap answerOctets said)
+  unfolding records answerRecord answered answerOf
+  served new = go (choice X n (e .mark)) (choice-is X n (e .mark)) (turn-tells ∙ ap answerOctets said)
     where
       X : ℕ → Circuit
       X = circuitAt t
@@ -187,14 +187,14 @@ module _ (t : List ℕ) (v : valid records t ≡ true) (x : ℕ → Circuit) (q 
           ∙ ap (seizedOctets i) (q i l))
 
 -- ---- at any place of a past that began at a valid table t, which shows circuits y
-module _ (t : List ℕ) (v : valid records t ≡ true) (y : ℕ → Circuit) (q : (c : ℕ) → c < length t / 32 → circuitAt t c ≡ y c) where
+module _ (t : List ℕ) (v : valid records t ≡ true) (y : ℕ → Circuit) (q : (c : ℕ) → c < circuits t → circuitAt t c ≡ y c) where
   abbrev since : List Turn → ℕ → Circuit
   since ps c = historyFrom (y c) ps c
 
-  pub served-within : (before : List Turn) (p : Turn) (later : List Turn) (u : List ℕ) → Ran t (before ++ p ∷ later) u → NewSetUp (length t / 32) (since before) (asked p) → Answered (length t / 32) (since before) (λ c. heard p c (since before c)) (asked p) (p .answer)
+  pub served-within : (before : List Turn) (p : Turn) (later : List Turn) (u : List ℕ) → Ran t (before ++ p ∷ later) u → NewSetUp (circuits t) (since before) (asked p) → Answered (circuits t) (since before) (λ c. afterTurn p c (since before c)) (asked p) (p .answer)
   served-within before p later u ran =
       let s = stood p later u before t v y q ran in
       let x : ℕ → Circuit = since before in
-      let then-shown : ℕ → Circuit = λ c. heard p c (x c) in
+      let then-shown : ℕ → Circuit = λ c. afterTurn p c (x c) in
       subst (λ (m : ℕ). ((c : ℕ) → c < m / 32 → circuitAt (s .table) c ≡ x c) → NewSetUp (m / 32) x (asked p) → Answered (m / 32) x then-shown (asked p) (p .answer)) (s .shows .as-long)
       (λ f. served (s .table) (s .shows .still-valid) x f p (s .answer)) (s .shows .tells)

@@ -12,13 +12,12 @@ use Rattle.octets.specs.Span.{span, zeros}
 use Rattle.octets.proofs.Tests.{by-test}
 use Rattle.octets.proofs.Spans.{span-cong, empty-agree}
 use Rattle.rules.specs.declared.part.Part.{Part}
-use Rattle.rules.specs.Fields.{codeOk}
+use Rattle.rules.specs.Fields.{pointCodeOk}
 use Rattle.rules.specs.Circuit.{nobody}
-use Rattle.rules.specs.Valid.{levelsOk, fieldsOk, pairOk, partNo, clash, valid}
-use Rattle.rules.specs.Records.{partAt, circuitAt, flagsAt, blankAt, records}
+use Rattle.rules.specs.Valid.{levelsOk, fieldsOk, pairOk, partNumbered, clash, valid}
+use Rattle.rules.specs.Records.{partAt, circuitAt, flagsAt, blankAt, emptyTable, records}
 use Rattle.rules.proofs.Faults.{facts-valid}
 use Rattle.claims.specs.History.{empty}
-use Rattle.claims.specs.Lists.{emptyTable}
 
 module _ (n : ℕ) where
   zero-at : (i : ℕ) → getD (emptyTable n) i 0 ≡ 0
@@ -50,11 +49,11 @@ module _ (n : ℕ) where
   blank-empty c =
       λ d.
       cond (eqb (zero-at (32 * c) d) 1) true (zeros (zero-span (32 * c) 12 d))
-      && cond (eqb (zero-at (32 * c + 12) d) 1) true (zeros (zero-span (32 * c + 12) 16 d))
-      && zeros (zero-span (32 * c + 28) 4 d)
+      && (cond (eqb (zero-at (32 * c + 12) d) 1) true (zeros (zero-span (32 * c + 12) 16 d))
+      && zeros (zero-span (32 * c + 28) 4 d))
 
-  part-no : (k : ℕ) → partNo (circuitAt (emptyTable n)) k ≡ nobody
-  part-no k =
+  part-numbered : (k : ℕ) → partNumbered (circuitAt (emptyTable n)) k ≡ nobody
+  part-numbered k =
       by-test (λ (p : Part). p ≡ nobody) (eqb (k % 2) 0) (partAt (emptyTable n) (32 * (k / 2))) (partAt (emptyTable n) (32 * (k / 2) + 12))
       (λ q. part-empty (32 * (k / 2))) (λ q. part-empty (32 * (k / 2) + 12))
 
@@ -65,8 +64,8 @@ module _ (n : ℕ) where
       (record {
         flags = λ c l. flags-empty c;
         levels = λ c l. ap levelsOk (circuit-empty c);
-        fields = λ c l. ap (fieldsOk codeOk) (circuit-empty c);
+        fields = λ c l. ap (fieldsOk pointCodeOk) (circuit-empty c);
         blank = λ c l. blank-empty c;
         pair = λ c l. ap pairOk (circuit-empty c);
-        unique = λ j k a b ne. ap (λ (p : Part). clash p (partNo (circuitAt (emptyTable n)) k)) (part-no j);
+        unique = λ j k a b ne. ap (λ (p : Part). clash p (partNumbered (circuitAt (emptyTable n)) k)) (part-numbered j);
       })

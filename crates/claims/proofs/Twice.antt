@@ -5,34 +5,33 @@ use mathlib.Core.Logic.{_≢_}
 use mathlib.Core.Bool.{cond, _&&_, true≢false}
 use mathlib.Core.List.{List}
 use native.Mathlib.Omega.{arith}
-use lib.ListN.{length}
 use lib.Dec.{eqb}
 use Rattle.octets.specs.Same.{same}
 use Rattle.octets.proofs.Tests.{by-eq}
 use Rattle.octets.proofs.Sames.{same-refl}
 use Rattle.rules.specs.declared.circuit.Circuit.{Circuit}
-use Rattle.rules.specs.Valid.{partNo}
-use Rattle.rules.specs.Records.{circuitAt, records}
+use Rattle.rules.specs.Valid.{partNumbered}
+use Rattle.rules.specs.Records.{circuitAt, records, circuits, emptyTable}
 use Rattle.rules.proofs.Faults.{Unique, valid-facts}
 use Rattle.claims.specs.History.{history}
-use Rattle.claims.specs.Lists.{emptyTable, tableAfter, past}
+use Rattle.claims.specs.Lists.{tableAfter, past}
 use Rattle.claims.specs.Demand.{StandsIn}
 use Rattle.claims.specs.Accidents.{InOnePart, NeverTwice}
 use Rattle.claims.proofs.Demanded.{now, now-count, history-tells}
 
-module _ (x : ℕ → Circuit) (n : ℕ) (u : Unique (partNo x) (2 * n)) (r : List ℕ) where
-  apart : (j k : ℕ) → j < 2 * n → k < 2 * n → j ≢ k → StandsIn r (partNo x j) → StandsIn r (partNo x k) → ⊥
+module _ (x : ℕ → Circuit) (n : ℕ) (u : Unique (partNumbered x) (2 * n)) (r : List ℕ) where
+  apart : (j k : ℕ) → j < 2 * n → k < 2 * n → j ≢ k → StandsIn r (partNumbered x j) → StandsIn r (partNumbered x k) → ⊥
   apart j k a b ne p q =
       true≢false
       (sym ((λ d. p .0 d && q .0 d && same (p .1 d) (q .1 d)) ∙ same-refl r) ∙ u j k a b ne)
 
-  holder-no : (c : ℕ) → StandsIn r (x c .holder) → StandsIn r (partNo x (2 * c))
+  holder-no : (c : ℕ) → StandsIn r (x c .holder) → StandsIn r (partNumbered x (2 * c))
   holder-no c =
       let even : 2 * c % 2 ≡ 0 = omega arith in
       let half : 2 * c / 2 ≡ c = omega arith in
       subst (StandsIn r) (sym (λ d. cond (eqb (even d) 0) (x (half d) .holder) (x (half d) .reservation)))
 
-  reservation-no : (c : ℕ) → StandsIn r (x c .reservation) → StandsIn r (partNo x (2 * c + 1))
+  reservation-no : (c : ℕ) → StandsIn r (x c .reservation) → StandsIn r (partNumbered x (2 * c + 1))
   reservation-no c =
       let odd : (2 * c + 1) % 2 ≡ 1 = omega arith in
       let half : (2 * c + 1) / 2 ≡ c = omega arith in
@@ -73,4 +72,4 @@ never-twice n lists r =
     let h = now n lists in
     in-one-part-over (circuitAt u) (history ps) n (history-tells n lists) r
     (subst (λ (m : ℕ). InOnePart m (circuitAt u) r) (now-count n lists)
-    (in-one-part (circuitAt u) (length u / 32) (valid-facts records u (h .still-valid) .unique) r))
+    (in-one-part (circuitAt u) (circuits u) (valid-facts records u (h .still-valid) .unique) r))

@@ -5,13 +5,14 @@ use mathlib.Core.Logic.{_⊎_}
 use mathlib.Core.Bool.{true, false}
 use mathlib.Core.List.{List, [], _∷_, _++_}
 use lib.ListN.{replicate}
-use Rattle.octets.specs.Span.{span}
+use Rattle.octets.specs.Span.{zeros}
+use Rattle.rules.specs.Numbers as number
 use Rattle.rules.specs.declared.part.Part.{Part}
 use Rattle.rules.specs.declared.circuit.Circuit.{Circuit}
 use Rattle.rules.specs.Circuit.{nobody}
-use Rattle.rules.specs.Records.{circuitAt}
-use Rattle.claims.specs.History.{Turn, asked, answerNumber, answerPlace, heard, history}
-use Rattle.claims.specs.Lists.{EventList, emptyTable, tableAfter, past}
+use Rattle.rules.specs.Records.{circuitAt, holderOctets, reservationOctets, answerNumber, answerDetail, lostCall, lostReservation, emptyTable}
+use Rattle.claims.specs.History.{Turn, asked, afterTurn, history}
+use Rattle.claims.specs.Lists.{EventList, tableAfter, past}
 use Rattle.claims.specs.Demand.{StandsIn}
 
 -- record c of table t, where the history shows circuit y
@@ -19,8 +20,8 @@ pub record OnlyWithParty (t : List ℕ) (c : ℕ) (y : Circuit) : Type 0 where
   -- each party on record, its mark and its reference, is the one that the history shows
   pub shows : circuitAt t c ≡ y
   -- where it shows no holder, every octet of the holder's part is zero; where it shows no reservation, every one of the reservation's
-  pub no-holder : y .holder .present ≡ false → span t (32 * c) 12 ≡ replicate 12 0
-  pub no-reservation : y .reservation .present ≡ false → span t (32 * c + 12) 16 ≡ replicate 16 0
+  pub no-holder : y .holder .present ≡ false → zeros (holderOctets t c) ≡ true
+  pub no-reservation : y .reservation .present ≡ false → zeros (reservationOctets t c) ≡ true
 
 -- THE FIRST ACCIDENT: "a mark stands on a circuit only while the history shows its party there"
 abbrev pub NoMarkLeft : Type 0
@@ -31,15 +32,15 @@ NoMarkLeft =
 pub record Own (k c : ℕ) (q : Part) (p : Turn) : Type 0 where
   pub kind : asked p .kind ≡ k
   pub party : StandsIn (asked p .reference) q
-  pub place : answerPlace (p .answer) ≡ c
+  pub named : answerDetail (p .answer) ≡ c
 
--- turn p is that of a strictly higher call in the same domain than the call in part q, and its answer names circuit c and, from octet o
--- on, the call in part q
-pub record Taken (o c : ℕ) (q : Part) (p : Turn) : Type 0 where
+-- turn p is that of a strictly higher call in the same domain than the call in part q, and its answer names circuit c and, as the
+-- loser, the call in part q
+pub record Taken (loser : List ℕ → List ℕ) (c : ℕ) (q : Part) (p : Turn) : Type 0 where
   pub domain : asked p .mark .domain ≡ q .mark .domain
   pub level : asked p .mark .level .0 < q .mark .level .0
-  pub place : answerPlace (p .answer) ≡ c
-  pub loser : span (p .answer) o 6 ≡ 1 ∷ q .reference
+  pub named : answerDetail (p .answer) ≡ c
+  pub lost : loser (p .answer) ≡ 1 ∷ q .reference
 
 -- after any lists from an empty table: the call that the history shows in this part of a circuit stays at each turn, or goes by it
 abbrev pub StaysOrGoes : (Circuit → Part) → (Circuit → Circuit → Type 0) → (ℕ → Circuit → Turn → Type 0) → Type 0
@@ -56,13 +57,13 @@ Old clock y = 3000 ≤ (clock + 4294967296 - y .clock) % 4294967296
 -- turn p takes the reservation of circuit c, which is y, away
 pub data Goes (c : ℕ) (y : Circuit) (p : Turn) : Type 0 where
   -- its own set-up, answered by 1 or 2: the call then holds the circuit
-  own-set-up : Own 1 c (y .reservation) p → (answerNumber (p .answer) ≡ 1) ⊎ (answerNumber (p .answer) ≡ 2) → Goes c y p
+  own-set-up : Own 1 c (y .reservation) p → (answerNumber (p .answer) ≡ number.seized) ⊎ (answerNumber (p .answer) ≡ number.seizedWithLoss) → Goes c y p
   -- its cancel, answered by 6
-  cancelled : Own 4 c (y .reservation) p → answerNumber (p .answer) ≡ 6 → Goes c y p
+  cancelled : Own 4 c (y .reservation) p → answerNumber (p .answer) ≡ number.cancelled → Goes c y p
   -- a set-up or look-ahead of a strictly higher call in the same domain, whose answer names it
-  higher-call : (asked p .kind ≡ 1) ⊎ (asked p .kind ≡ 3) → Taken 10 c (y .reservation) p → Goes c y p
+  higher-call : (asked p .kind ≡ 1) ⊎ (asked p .kind ≡ 3) → Taken lostReservation c (y .reservation) p → Goes c y p
   -- a clock event, answered by 7, at 3,000 steps or more
-  overdue : asked p .kind ≡ 5 → answerNumber (p .answer) ≡ 7 → Old (asked p .clock) y → Goes c y p
+  overdue : asked p .kind ≡ 5 → answerNumber (p .answer) ≡ number.clockTaken → Old (asked p .clock) y → Goes c y p
 
 abbrev pub Stays : Circuit → Circuit → Type 0  -- the same party has it reserved since the same clock
 Stays y z = (z .reservation ≡ y .reservation) × (z .clock ≡ y .clock)
@@ -75,15 +76,15 @@ NoReservationLost = StaysOrGoes (λ y. y .reservation) Stays Goes
 -- and by the history, which by HistoryTells is the table's own, a clock event that was taken removes each reservation that is old, and no other
 abbrev pub OldOnesGo : Type 0
 OldOnesGo =
-    (p : Turn) (c : ℕ) (y : Circuit) → answerNumber (p .answer) ≡ 7 → y .reservation .present ≡ true
-    → (Old (asked p .clock) y → heard p c y .reservation ≡ nobody) × ((Old (asked p .clock) y → ⊥) → Stays y (heard p c y))
+    (p : Turn) (c : ℕ) (y : Circuit) → answerNumber (p .answer) ≡ number.clockTaken → y .reservation .present ≡ true
+    → (Old (asked p .clock) y → afterTurn p c y .reservation ≡ nobody) × ((Old (asked p .clock) y → ⊥) → Stays y (afterTurn p c y))
 
 -- turn p takes the holder of circuit c, which is y, away
 pub data HolderGoes (c : ℕ) (y : Circuit) (p : Turn) : Type 0 where
   -- its release, answered by 5
-  released : Own 2 c (y .holder) p → answerNumber (p .answer) ≡ 5 → HolderGoes c y p
+  released : Own 2 c (y .holder) p → answerNumber (p .answer) ≡ number.released → HolderGoes c y p
   -- the set-up of a strictly higher call in the same domain, with a reservation there or without, answered by 2 and the holder's name
-  higher-set-up : asked p .kind ≡ 1 → answerNumber (p .answer) ≡ 2 → Taken 4 c (y .holder) p → HolderGoes c y p
+  higher-set-up : asked p .kind ≡ 1 → answerNumber (p .answer) ≡ number.seizedWithLoss → Taken lostCall c (y .holder) p → HolderGoes c y p
 
 abbrev pub HolderStays : Circuit → Circuit → Type 0  -- the same party holds it under the same mark
 HolderStays y z = z .holder ≡ y .holder

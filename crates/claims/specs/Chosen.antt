@@ -1,14 +1,14 @@
 -- 01, "Rules of choice", in plain words and not through the search that computes it: x c is what the history shows of circuit c, and there are n circuits.
-use Prim.Native.Nat.{ℕ, _/_, _<_}
+use Prim.Native.Nat.{ℕ, _<_}
 use mathlib.Core.Path.{_≡_}
 use mathlib.Core.Logic.{_≢_}
 use mathlib.Core.Bool.{true, false}
 use mathlib.Core.List.{List}
-use lib.ListN.{length}
 use Rattle.rules.specs.declared.mark.Mark.{Mark}
 use Rattle.rules.specs.declared.circuit.Circuit.{Circuit}
+use Rattle.rules.specs.Numbers.{done}
 use Rattle.rules.specs.Circuit.{isRoutine, standing}
-use Rattle.rules.specs.Records.{circuitAt, checkNumber}
+use Rattle.rules.specs.Records.{circuitAt, checkNumber, circuits}
 
 abbrev pub Free : Circuit → Type 0  -- a circuit is free if it has neither part
 Free y = (y .holder .present ≡ false) × (y .reservation .present ≡ false)
@@ -52,4 +52,4 @@ module _ (x : ℕ → Circuit) (n : ℕ) where
 -- "So ROUTINE takes nothing", on any table that the check takes
 abbrev pub RoutineTakesNothing : Type 0
 RoutineTakesNothing =
-    (t : List ℕ) → checkNumber t ≡ 0 → (m : Mark) → isRoutine (m .level) ≡ true → NoneLower (circuitAt t) (length t / 32) m
+    (t : List ℕ) → checkNumber t ≡ done → (m : Mark) → isRoutine (m .level) ≡ true → NoneLower (circuitAt t) (circuits t) m

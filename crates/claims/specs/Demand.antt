@@ -14,11 +14,13 @@ use Rattle.rules.specs.declared.circuit.Circuit.{Circuit}
 use Rattle.rules.specs.declared.event.Event.{Event}
 use Rattle.rules.specs.Circuit.{isRoutine, nobody}
 use Rattle.rules.specs.Event.{wellFormed}
-use Rattle.rules.specs.Records.{circuitAt, eventAt}
+use Rattle.rules.specs.Numbers as number
+use Rattle.rules.specs.Records.{circuitAt, eventAt, mostCircuits, eventSize, answerSize, answerNumber, emptyTable, answerFields, nobodyLost}
 use Rattle.route.specs.Entries.{listAnswers}
-use Rattle.claims.specs.History.{Turn, asked, answerNumber, caller, history}
-use Rattle.claims.specs.Lists.{EventList, emptyTable, tableAfter, past}
+use Rattle.claims.specs.History.{Turn, asked, caller, history}
+use Rattle.claims.specs.Lists.{EventList, tableAfter, past}
 use Rattle.claims.specs.Chosen.{NoneFree, NoneLower, FirstFree, Lowest}
+use Rattle.rules.specs.Answer.{noDetail}
 
 -- "Who holds and who has reserved each circuit follows from the past events and answers alone": what the table shows of a circuit,
 -- under which mark and since which clock, is what the history says
@@ -42,16 +44,18 @@ ForWant a = (answerNumber a ≡ 30) ⊎ (answerNumber a ≡ 31)
 
 -- the whole answer then: ROUTINE 30 with cause 34, others 31 with cause 46; 65535; zeros
 abbrev pub wantOctets : Bool → List ℕ
-wantOctets ofRoutine = cond ofRoutine (30 ∷ 34 ∷ []) (31 ∷ 46 ∷ []) ++ 255 ∷ 255 ∷ replicate 12 0
+wantOctets ofRoutine =
+    cond ofRoutine (answerFields 30 34 noDetail nobodyLost nobodyLost) (answerFields 31 46 noDetail nobodyLost nobodyLost)
 
 -- a loser in an answer: 1 and its reference where a call stands, zeros where none does
 abbrev pub loserOctets : Part → List ℕ
-loserOctets p = cond (p .present) (1 ∷ p .reference) (replicate 6 0)
+loserOctets p = cond (p .present) (1 ∷ p .reference) nobodyLost
 
 -- the whole answer to a call that gets circuit i, which was y: 2 if anybody stood there, else 1; no cause; the circuit; the losers
 abbrev pub seizedOctets : ℕ → Circuit → List ℕ
 seizedOctets i y =
-    cond (y .holder .present || y .reservation .present) 2 1 ∷ 0 ∷ i % 256 ∷ i / 256 ∷ loserOctets (y .holder) ++ loserOctets (y .reservation)
+    answerFields (cond (y .holder .present || y .reservation .present) number.seizedWithLoss number.seized) 0 i
+    (loserOctets (y .holder)) (loserOctets (y .reservation))
 
 -- event e gets a circuit by answer a; what the history shows was x and is y afterwards
 pub record Gets (n : ℕ) (x y : ℕ → Circuit) (e : Event) (a : List ℕ) : Type 0 where
@@ -76,8 +80,8 @@ pub record Answered (n : ℕ) (x y : ℕ → Circuit) (e : Event) (a : List ℕ)
 -- DEMAND 3: after any lists given to the list entry, of a set-up given to it as a list of one event
 abbrev pub Demand3 : Type 0
 Demand3 =
-    (n : ℕ) → 1 ≤ n → n ≤ 256
-    → (lists : List EventList) (e place : List ℕ) → length e ≡ 16 → length place ≡ 16
+    (n : ℕ) → 1 ≤ n → n ≤ mostCircuits
+    → (lists : List EventList) (e place : List ℕ) → length e ≡ eventSize → length place ≡ answerSize
     → NewSetUp n (history (past (emptyTable n) lists)) (eventAt e)
     → Answered n (history (past (emptyTable n) lists))
     (history (past (emptyTable n) (lists ++ record { events = e; places = place } ∷ [])))

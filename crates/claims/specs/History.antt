@@ -2,14 +2,13 @@
 use Prim.Native.Nat.{ℕ, _+_, _-_, _%_}
 use mathlib.Core.Bool.{Bool, true, cond, _&&_, _||_}
 use mathlib.Core.List.{List, [], _∷_}
-use lib.ListN.{getD}
 use lib.Dec.{eqb, leb}
-use Rattle.octets.specs.Span.{number}
 use Rattle.rules.specs.declared.part.Part.{Part}
 use Rattle.rules.specs.declared.circuit.Circuit.{Circuit}
 use Rattle.rules.specs.declared.event.Event.{Event}
 use Rattle.rules.specs.Circuit.{nobody}
-use Rattle.rules.specs.Records.{eventAt}
+use Rattle.rules.specs.Numbers as number
+use Rattle.rules.specs.Records.{eventAt, answerNumber, answerDetail}
 
 -- an event and the answer that was given to it, both in their octets
 pub record Turn : Type 0 where
@@ -19,12 +18,6 @@ pub record Turn : Type 0 where
 abbrev pub asked : Turn → Event  -- what its event says
 asked p = eventAt (p .event)
 
-abbrev pub answerNumber : List ℕ → ℕ  -- an answer's octet 0: its number
-answerNumber a = getD a 0 0
-
-abbrev pub answerPlace : List ℕ → ℕ  -- its octets 2-3: the circuit that it names
-answerPlace a = number a 2 2
-
 abbrev pub caller : Event → Part  -- the event's call as it stands in a part: present, under the event's mark, by its reference
 caller e = record { present = true; mark = e .mark; reference = e .reference }
 
@@ -32,31 +25,31 @@ caller e = record { present = true; mark = e .mark; reference = e .reference }
 unfoldable pub named : Event → ℕ → Circuit → Circuit
 named e k y =
     -- 1 / 2 seized: the call holds it, with no reservation
-    cond (eqb k 1 || eqb k 2) (record { holder = caller e; reservation = nobody; clock = 0 })
+    cond (eqb k number.seized || eqb k number.seizedWithLoss) (record { holder = caller e; reservation = nobody; clock = 0 })
     -- 3 / 4 reserved: the call has reserved it since the event's clock, and a holder stays
-    (cond (eqb k 3 || eqb k 4) (record { holder = y .holder; reservation = caller e; clock = e .clock })
+    (cond (eqb k number.reserved || eqb k number.reservedWithLoss) (record { holder = y .holder; reservation = caller e; clock = e .clock })
     -- 5 released: nobody holds it, and a reservation stays
-    (cond (eqb k 5) (record { holder = nobody; reservation = y .reservation; clock = y .clock })
+    (cond (eqb k number.released) (record { holder = nobody; reservation = y .reservation; clock = y .clock })
     -- 6 cancelled: nobody has reserved it, and a holder stays
-    (cond (eqb k 6) (record { holder = y .holder; reservation = nobody; clock = 0 }) y)))
+    (cond (eqb k number.cancelled) (record { holder = y .holder; reservation = nobody; clock = 0 }) y)))
 
 -- a reservation that was made 3,000 steps ago or more, modulo 4,294,967,296
 abbrev pub old : ℕ → Circuit → Bool
 old clock y = y .reservation .present && leb 3000 ((clock + 4294967296 - y .clock) % 4294967296)
 
--- what circuit c, which was y, is after event e was answered by number k and named circuit i: 7, a clock event that was taken, removes
+-- what circuit c, which was y, is after event e was answered by number k with detail i: 7, a clock event that was taken, removes
 -- each old reservation, and any other answer speaks of the circuit that it names
-unfoldable pub told : Event → ℕ → ℕ → ℕ → Circuit → Circuit
-told e k i c y =
-    cond (eqb k 7) (cond (old (e .clock) y) (record { holder = y .holder; reservation = nobody; clock = 0 }) y) (cond (eqb i c) (named e k y) y)
+unfoldable pub afterAnswer : Event → ℕ → ℕ → ℕ → Circuit → Circuit
+afterAnswer e k i c y =
+    cond (eqb k number.clockTaken) (cond (old (e .clock) y) (record { holder = y .holder; reservation = nobody; clock = 0 }) y) (cond (eqb i c) (named e k y) y)
 
-abbrev pub heard : Turn → ℕ → Circuit → Circuit  -- the same, read from the octets
-heard p c y = told (asked p) (answerNumber (p .answer)) (answerPlace (p .answer)) c y
+abbrev pub afterTurn : Turn → ℕ → Circuit → Circuit  -- the same, read from the octets
+afterTurn p c y = afterAnswer (asked p) (answerNumber (p .answer)) (answerDetail (p .answer)) c y
 
 -- circuit c after these turns, the oldest first, if it was y before them
 abbrev pub historyFrom : Circuit → List Turn → ℕ → Circuit
 historyFrom y [] c = y
-historyFrom y (p ∷ ps) c = historyFrom (heard p c y) ps c
+historyFrom y (p ∷ ps) c = historyFrom (afterTurn p c y) ps c
 
 abbrev pub empty : Circuit  -- nobody holds it, and nobody has reserved it
 empty = record { holder = nobody; reservation = nobody; clock = 0 }

@@ -4,7 +4,8 @@ use mathlib.Core.Bool.{cond}
 use mathlib.Core.List.{List, [], _∷_, _++_}
 use lib.ListN.{length, replicate}
 use lib.Dec.{eqb}
-use Rattle.octets.specs.Span.{span}
+use Rattle.rules.specs.Numbers.{done}
+use Rattle.rules.specs.Records.{eventSize, eventIn, answerIn}
 use Rattle.route.specs.Entries.{listNumber, listTable, listAnswers}
 use Rattle.claims.specs.History.{Turn}
 
@@ -13,20 +14,17 @@ pub record EventList : Type 0 where
   pub events : List ℕ
   pub places : List ℕ
 
-abbrev pub emptyTable : ℕ → List ℕ  -- n circuits, all free
-emptyTable n = replicate (32 * n) 0
-
--- the first n events, each with the answer at its place, 16 octets each
+-- the first n events, each with the answer at its place
 abbrev pub turnsTo : List ℕ → List ℕ → ℕ → List Turn
 turnsTo events answers zero = []
 turnsTo events answers (suc n) =
-    turnsTo events answers n ++ (record { event = span events (16 * n) 16; answer = span answers (16 * n) 16 } ∷ [])
+    turnsTo events answers n ++ (record { event = eventIn events n; answer = answerIn answers n } ∷ [])
 
 -- what a list adds to the past, given with table t: each event with the answer left for it, if 0 came back; nothing if 20 did
 unfoldable pub turns : List ℕ → EventList → List Turn
 turns t l =
-    cond (eqb (listNumber t (l .events) (l .places)) 0)
-    (turnsTo (l .events) (listAnswers t (l .events) (l .places)) (length (l .events) / 16))
+    cond (eqb (listNumber t (l .events) (l .places)) done)
+    (turnsTo (l .events) (listAnswers t (l .events) (l .places)) (length (l .events) / eventSize))
     []
 
 abbrev pub tableAfter : List ℕ → List EventList → List ℕ  -- the table after lists one after another

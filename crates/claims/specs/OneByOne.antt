@@ -1,5 +1,5 @@
 -- What holds of every table, one that is not valid too: a list is its events one by one, validity is kept, and a refusal changes nothing.
-use Prim.Native.Nat.{ℕ, _%_, _≤_, _<_}
+use Prim.Native.Nat.{ℕ, _%_, _≤_, _<_, _*_, _/_}
 use mathlib.Core.Path.{_≡_}
 use mathlib.Core.Logic.{_↔_, _≢_}
 use mathlib.Core.List.{List, [], _∷_}
@@ -7,44 +7,46 @@ use lib.ListN.{length, replicate}
 use Rattle.octets.specs.Span.{span}
 use Rattle.rules.specs.declared.circuit.Circuit.{Circuit}
 use Rattle.rules.specs.Numbers.{causeOf}
-use Rattle.rules.specs.Records.{checkNumber}
+use Rattle.rules.specs.Numbers as number
+use Rattle.rules.specs.Answer.{noDetail}
+use Rattle.rules.specs.Records.{checkNumber, circuitSize, mostCircuits, eventSize, mostEvents, answerSize, answerNumber, lostCall, lostReservation, emptyTable, answerFields, nobodyLost}
 use Rattle.route.specs.Entries.{eventNumber, eventTable, eventAnswer, listNumber, listTable, listAnswers}
-use Rattle.claims.specs.History.{Turn, answerNumber, heard}
-use Rattle.claims.specs.Lists.{EventList, emptyTable, tableAfter, past}
+use Rattle.claims.specs.History.{Turn, afterTurn}
+use Rattle.claims.specs.Lists.{EventList, tableAfter, past}
 
 -- each event given to the event entry alone, with a zero answer to write on: it leaves the answer that the past has, and in the end
 -- table t is u
 abbrev pub EventByEvent : List ℕ → List Turn → List ℕ → Type 0
 EventByEvent t [] u = t ≡ u
 EventByEvent t (p ∷ ps) u =
-    (p .answer ≡ eventAnswer t (p .event) (replicate 16 0)) × EventByEvent (eventTable t (p .event) (replicate 16 0)) ps u
+    (p .answer ≡ eventAnswer t (p .event) (replicate answerSize 0)) × EventByEvent (eventTable t (p .event) (replicate answerSize 0)) ps u
 
 -- "a list is its events one by one, and lists one after another are one long run"
 abbrev pub OneByOne : Type 0
 OneByOne = (t : List ℕ) (lists : List EventList) → EventByEvent t (past t lists) (tableAfter t lists)
 
--- 1 to 256 whole circuits, 0 to 4,096 whole events, and a place of 16 octets for the answer to each
+-- 1 to 256 whole circuits, 0 to 4,096 whole events, and a place for the answer to each
 pub record RightLengths (t es places : List ℕ) : Type 0 where
-  pub circuits : length t % 32 ≡ 0
-  pub some : 32 ≤ length t
-  pub most : length t ≤ 8192
-  pub events : length es % 16 ≡ 0
-  pub many : length es ≤ 65536
-  pub answers : length places ≡ length es
+  pub circuits : length t % circuitSize ≡ 0
+  pub some : circuitSize ≤ length t
+  pub most : length t ≤ circuitSize * mostCircuits
+  pub events : length es % eventSize ≡ 0
+  pub many : length es ≤ eventSize * mostEvents
+  pub answers : length places ≡ answerSize * (length es / eventSize)
 
 -- "a list has 0 to 4,096 events and exactly one answer place for each (else 20)": it is carried out exactly at right lengths
 abbrev pub CarriedOut : Type 0
-CarriedOut = (t es places : List ℕ) → (listNumber t es places ≡ 0) ↔ RightLengths t es places
+CarriedOut = (t es places : List ℕ) → (listNumber t es places ≡ number.done) ↔ RightLengths t es places
 
 -- a list of one event leaves what the event entry leaves; so demand 3 is the event entry's too
 abbrev pub ListOfOne : Type 0
 ListOfOne =
-    (t e place : List ℕ) → length e ≡ 16 → (listTable t e place ≡ eventTable t e place) × (listAnswers t e place ≡ eventAnswer t e place)
+    (t e place : List ℕ) → length e ≡ eventSize → (listTable t e place ≡ eventTable t e place) × (listAnswers t e place ≡ eventAnswer t e place)
 
 -- the event entry returns the number of the answer that it leaves, or 20
 abbrev pub ReturnsNumber : Type 0
 ReturnsNumber =
-    (t e place : List ℕ) → eventNumber t e place ≢ 20 → eventNumber t e place ≡ answerNumber (eventAnswer t e place)
+    (t e place : List ℕ) → eventNumber t e place ≢ number.wrongLength → eventNumber t e place ≡ answerNumber (eventAnswer t e place)
 
 -- "every event keeps a valid table valid": the check gives what it gave, after an event and after a list
 abbrev pub EventKeepsValid : Type 0
@@ -55,29 +57,29 @@ ListKeepsValid = (t es places : List ℕ) → checkNumber (listTable t es places
 
 -- so it gives 0 after any lists from an empty table
 abbrev pub AlwaysValid : Type 0
-AlwaysValid = (n : ℕ) → 1 ≤ n → n ≤ 256 → (lists : List EventList) → checkNumber (tableAfter (emptyTable n) lists) ≡ 0
+AlwaysValid = (n : ℕ) → 1 ≤ n → n ≤ mostCircuits → (lists : List EventList) → checkNumber (tableAfter (emptyTable n) lists) ≡ number.done
 
 -- "a refusal changes nothing": the table stays, octet for octet
 abbrev pub RefusalKeepsTable : Type 0
-RefusalKeepsTable = (t e place : List ℕ) → 20 ≤ eventNumber t e place → eventTable t e place ≡ t
+RefusalKeepsTable = (t e place : List ℕ) → number.wrongLength ≤ eventNumber t e place → eventTable t e place ≡ t
 
 -- and the answer is the number, the cause, 65535 and zeros
 abbrev pub RefusalAnswers : Type 0
 RefusalAnswers =
-    (t e place : List ℕ) → 20 < eventNumber t e place
-    → eventAnswer t e place ≡ eventNumber t e place ∷ causeOf (eventNumber t e place) ∷ 255 ∷ 255 ∷ replicate 12 0
+    (t e place : List ℕ) → number.wrongLength < eventNumber t e place
+    → eventAnswer t e place ≡ answerFields (eventNumber t e place) (causeOf (eventNumber t e place)) noDetail nobodyLost nobodyLost
 
 -- and what the history shows stays, whatever circuit it showed; by HistoryTells the history is the table's own
 abbrev pub RefusalKeepsHistory : Type 0
-RefusalKeepsHistory = (p : Turn) (c : ℕ) (y : Circuit) → 20 ≤ answerNumber (p .answer) → heard p c y ≡ y
+RefusalKeepsHistory = (p : Turn) (c : ℕ) (y : Circuit) → number.wrongLength ≤ answerNumber (p .answer) → afterTurn p c y ≡ y
 
 -- nor does a list that is refused by 20 write anything
 abbrev pub RefusedList : Type 0
 RefusedList =
-    (t es places : List ℕ) → listNumber t es places ≡ 20 → (listTable t es places ≡ t) × (listAnswers t es places ≡ places)
+    (t es places : List ℕ) → listNumber t es places ≡ number.wrongLength → (listTable t es places ≡ t) × (listAnswers t es places ≡ places)
 
--- "The fields at 4 and 10 are filled for answers 2 and 4 only": octets 4 to 15 are zero else
+-- "The fields at 4 and 10 are filled for answers 2 and 4 only": else they are zero
 abbrev pub OnlyTwoAndFour : Type 0
 OnlyTwoAndFour =
-    (t e place : List ℕ) → eventNumber t e place ≢ 2 → eventNumber t e place ≢ 4 → eventNumber t e place ≢ 20
-    → span (eventAnswer t e place) 4 12 ≡ replicate 12 0
+    (t e place : List ℕ) → eventNumber t e place ≢ number.seizedWithLoss → eventNumber t e place ≢ number.reservedWithLoss → eventNumber t e place ≢ number.wrongLength
+    → (lostCall (eventAnswer t e place) ≡ nobodyLost) × (lostReservation (eventAnswer t e place) ≡ nobodyLost)

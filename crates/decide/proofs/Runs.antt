@@ -9,7 +9,7 @@ use lib.ListN.{length, getD, length-append, List·getD-append}
 use lib.Seq.{getD-append-add}
 use Rattle.octets.specs.Span.{span}
 use Rattle.octets.proofs.Spans.{span-cong}
-use Rattle.rules.specs.Run.{run, answers}
+use Rattle.rules.specs.Run.{run, answerRecords}
 use Rattle.rules.specs.Records.{records}
 use Rattle.rules.proofs.Kept.{answers-append}
 use Rattle.route.specs.Entries.{eventsTo, eventsIn, listTable, listAnswers}
@@ -89,11 +89,11 @@ flatten-append (x ∷ a) b = ap (λ (l : List ℕ). x ++ l) (flatten-append a b)
 pub list-by-list : ListByList
 unfolding answersTo listTable listAnswers eventsIn
 list-by-list before t first places rest h =
-    let told = flatten (answers records t (eventsIn first)) in
+    let told = flatten (answerRecords records t (eventsIn first)) in
     let after = run records t (eventsIn first) in
     let whole : length first % 16 ≡ 0 = list-facts t first places h .1 in
     let size : length told ≡ 16 * (length first / 16) = told-length t first (length first / 16) in
-    let split : answersTo t (first ++ rest) ≡ told ++ answersTo after rest = ap (λ (es : List (List ℕ)). flatten (answers records t es)) (events-append first rest whole) ∙ ap flatten (answers-append records (eventsIn first) (eventsIn rest) t) ∙ flatten-append (answers records t (eventsIn first)) (answers records after (eventsIn rest)) in
+    let split : answersTo t (first ++ rest) ≡ told ++ answersTo after rest = ap (λ (es : List (List ℕ)). flatten (answerRecords records t es)) (events-append first rest whole) ∙ ap flatten (answers-append records (eventsIn first) (eventsIn rest) t) ∙ flatten-append (answerRecords records t (eventsIn first)) (answerRecords records after (eventsIn rest)) in
     let number : length told / 16 ≡ length first / 16 = omega arith in
     ap (listing before) split ∙ running-on before told (answersTo after rest) (omega arith)
     ∙ (λ i. listing before (cond (sym h i) told places) ++ listing (before + number i) (answersTo (cond (sym h i) after t) rest))

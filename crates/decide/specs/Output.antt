@@ -5,14 +5,14 @@ use mathlib.Core.Bool.{cond, true}
 use mathlib.Core.List.{List, [], _++_, flatten}
 use lib.ListN.{length}
 use lib.Dec.{eqb}
-use Rattle.rules.specs.Run.{answers}
+use Rattle.rules.specs.Run.{answerRecords}
 use Rattle.rules.specs.Records.{records, checkNumber}
 use Rattle.route.specs.Entries.{eventsIn, listLengths, listTable, listAnswers}
 use Rattle.lines.specs.Event.{header, short, badTable}
 use Rattle.decide.specs.Listing.{listing}
 
 unfoldable pub answersTo : List ℕ → List ℕ → List ℕ  -- the answers to all whole events of the input, one by one
-answersTo t input = flatten (answers records t (eventsIn input))
+answersTo t input = flatten (answerRecords records t (eventsIn input))
 
 abbrev pub leftOver : ℕ → List ℕ  -- a last part of n octets, n from 1 to 15
 leftOver n = cond (eqb n 0) [] (short n)

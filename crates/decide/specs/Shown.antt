@@ -1,15 +1,16 @@
 -- 01, "The program and its whole output": its nine events over its table of 64 zero octets give its listing, letter for letter.
+use Prim.Native.Nat.{_-_}
 use mathlib.Core.Path.{_≡_, refl}
 use mathlib.Core.List.{flatten}
 use lib.ListN.{replicate}
-use Rattle.rules.specs.Fields.{decimal, parameterOk, codeOk}
+use Rattle.rules.specs.Fields.{decimal, parameterOk, pointCodeOk}
 use Rattle.rules.specs.Circuit.{takeable, worth, rank}
 use Rattle.rules.specs.Choice.{heldBy, reservedBy, choice}
 use Rattle.rules.specs.Event.{wellFormed}
 use Rattle.rules.specs.Decision.{onReservation, setUp, lookAhead, release, cancel, decision}
 use Rattle.rules.specs.Answer.{answerOf}
 use Rattle.rules.specs.Valid.{levelsOk, fieldsOk, pairOk, repeated, recordVerdict, verdict, valid}
-use Rattle.rules.specs.Run.{decide, effect, after, answer, answered}
+use Rattle.rules.specs.Run.{outcomeOf, effect, after, answerRecord, answered}
 use Rattle.rules.specs.Records.{putCircuit, flagsAt, blankAt, records, checkNumber, tableLength}
 use Rattle.rules.specs.Vectors.{event, setsUp, releases, looksAhead, ticks, immediate, priority}
 use Rattle.rules.specs.Vectors as paper
@@ -20,5 +21,5 @@ use Rattle.decide.specs.Listing.{listing}
 use Rattle.decide.specs.Output.{answersTo, output}
 
 pub shown : output (replicate 64 0) (flatten paper.listing) ≡ letters "event answer cause number call reservation\n1 1 0 0 - -\n2 3 0 1 - -\n3 2 0 0 1/1 -\n4 31 46 - - -\n5 27 0 - - -\n6 7 0 0 - -\n7 7 0 1 - -\n8 1 0 1 - -\n9 30 34 - - -\n"
-unfolding flatten immediate priority event setsUp releases looksAhead ticks paper.listing answer answered after effect decide decision setUp lookAhead release cancel onReservation choice heldBy reservedBy rank worth takeable answerOf valid verdict recordVerdict repeated levelsOk fieldsOk pairOk decimal codeOk wellFormed parameterOk records putCircuit flagsAt blankAt checkNumber tableLength eventsIn answersTo output decimalIn party line listing
+unfolding flatten immediate priority event setsUp releases looksAhead ticks paper.listing answerRecord answered after effect outcomeOf decision setUp lookAhead release cancel onReservation choice heldBy reservedBy rank worth takeable answerOf valid verdict recordVerdict repeated levelsOk fieldsOk pairOk decimal pointCodeOk wellFormed parameterOk records putCircuit flagsAt blankAt checkNumber tableLength eventsIn answersTo output decimalIn party line listing
 shown = refl

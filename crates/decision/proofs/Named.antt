@@ -1,9 +1,8 @@
 -- What is decided names a circuit that a search found, so one that is there; and over a valid table its record is in order.
-use Prim.Native.Nat.{ℕ, _/_}
+use Prim.Native.Nat.{ℕ}
 use mathlib.Core.Path.{_≡_}
 use mathlib.Core.Bool.{Bool, true}
 use mathlib.Core.List.{List}
-use lib.ListN.{length}
 use Rattle.rules.specs.declared.circuit.Circuit.{Circuit}
 use Rattle.rules.specs.declared.event.Event.{Event}
 use Rattle.rules.specs.declared.search.Found.{Found}
@@ -16,7 +15,7 @@ use Rattle.rules.specs.Choice.{reservedBy}
 use Rattle.rules.specs.Event.{wellFormed}
 use Rattle.rules.specs.Decision.{decision}
 use Rattle.rules.specs.Valid.{valid}
-use Rattle.rules.specs.Records.{circuitAt, records}
+use Rattle.rules.specs.Records.{circuitAt, records, circuits}
 use Rattle.rules.specs.Ready.{Ready}
 use Rattle.rules.proofs.Faults.{Facts, valid-facts}
 use Rattle.rules.proofs.Searches.{FirstIs, first-is}
@@ -35,14 +34,14 @@ reserved-below n x r = go (firstTo f n) (first-is f n)
     go (At i) h = h .0
     go Nothing h = tt
 
-pub ready : (t : List ℕ) → valid records t ≡ true → (e : Event) → wellFormed e ≡ true → Ready t (decision (circuitAt t) (length t / 32) e)
+pub ready : (t : List ℕ) → valid records t ≡ true → (e : Event) → wellFormed e ≡ true → Ready t (decision (circuitAt t) (circuits t) e)
 unfolding records
-ready t v e w = go (decision (circuitAt t) (length t / 32) e) (right (circuitAt t) (length t / 32) e (facts .pair) (facts .unique) w .0)
+ready t v e w = go (decision (circuitAt t) (circuits t) e) (right (circuitAt t) (circuits t) e (facts .pair) (facts .unique) w .0)
   where
     facts : Facts records t
     facts = valid-facts records t v
 
-    go : (o : Outcome) → Suits (circuitAt t) (length t / 32) e o → Ready t o
+    go : (o : Outcome) → Suits (circuitAt t) (circuits t) e o → Ready t o
     go (Refuse r) h = tt
     go (Do a i) h = (h .0, facts .flags i (h .0), facts .blank i (h .0))
     go Clock h = tt

@@ -5,19 +5,19 @@ use rules::mark::Mark;
 use rules::outcome::Act;
 use rules::outcome::Outcome;
 use rules::outcome::Refusal;
+use rules::parameter;
 use rules::part::Part;
 use rules::part::Reference;
 use rules::search::Found;
 ghost use mathlib.Core.Path.{_≡_};
 ghost use mathlib.Core.Bool.{true, false, not, _||_};
-ghost use Prim.Native.Nat.{_/_};
 ghost use Rattle.rules.specs.Search.{found};
 ghost use Rattle.rules.specs.Circuit.{outranks};
 ghost use Rattle.rules.specs.Choice.{heldBy, reservedBy, choice};
-ghost use Rattle.rules.specs.Decision.{onReservation, blocked, setUp, lookAhead, release, cancel};
+ghost use Rattle.rules.specs.Decision.{onReservation, blocked, setUpUnheld, setUp, standsNowhere, lookAhead, release, cancel};
 ghost use Rattle.rules.specs.Decision as rule;
 ghost use Rattle.rules.specs.Valid.{valid};
-ghost use Rattle.rules.specs.Run as run;
+ghost use Rattle.rules.specs.Run.{outcomeOf};
 ghost use Rattle.rules.specs.Records.{circuits, circuitAt, records};
 ghost use Rattle.rules.specs.Ready.{Ready};
 
@@ -59,7 +59,7 @@ fn blocked(e: Event) -> Refusal
 
 // The choice, for a call that stands nowhere: done there, or refused for want of a circuit.
 fn chosen(t: &[u8], e: Event, act: Act, want: Refusal) -> Outcome
-    ensures { λ r. ⌜ r ≡ found (choice (circuitAt (now (t .entry))) (circuits (now (t .entry))) (e .mark)) (Outcome.Do act) (Outcome.Refuse want) ⌝ }
+    ensures { λ r. ⌜ r ≡ rule.chosen (circuitAt (now (t .entry))) (circuits (now (t .entry))) e act want ⌝ }
 {
     match choice::choose(t, e.mark) {
         Found::At(i) => Outcome::Do(act, i),
@@ -68,8 +68,8 @@ fn chosen(t: &[u8], e: Event, act: Act, want: Refusal) -> Outcome
 }
 
 // A set-up by a call that holds nothing.
-fn unheld(t: &[u8], e: Event) -> Outcome
-    ensures { λ r. ⌜ r ≡ found (reservedBy (circuitAt (now (t .entry))) (circuits (now (t .entry))) (e .reference)) (λ i. onReservation e (circuitAt (now (t .entry)) i) i) (found (choice (circuitAt (now (t .entry))) (circuits (now (t .entry))) (e .mark)) (Outcome.Do Act.Seize) (Outcome.Refuse (blocked e))) ⌝ }
+fn set_up_unheld(t: &[u8], e: Event) -> Outcome
+    ensures { λ r. ⌜ r ≡ setUpUnheld (circuitAt (now (t .entry))) (circuits (now (t .entry))) e ⌝ }
 {
     let reference = e.reference;
     match choice::reserved_by(t, reference) {
@@ -78,19 +78,20 @@ fn unheld(t: &[u8], e: Event) -> Outcome
     }
 }
 
+// What is decided of a set-up.
 fn set_up(t: &[u8], e: Event) -> Outcome
     ensures { λ r. ⌜ r ≡ setUp (circuitAt (now (t .entry))) (circuits (now (t .entry))) e ⌝ }
 {
     let reference = e.reference;
     match choice::held_by(t, reference) {
         Found::At(_) => Outcome::Refuse(Refusal::AlreadyThere),
-        Found::Nothing => unheld(t, e),
+        Found::Nothing => set_up_unheld(t, e),
     }
 }
 
 // Whether the call with this reference stands on no circuit.
-fn nowhere(t: &[u8], reference: Reference) -> bool
-    ensures { λ r. ⌜ r ≡ found (heldBy (circuitAt (now (t .entry))) (circuits (now (t .entry))) reference) (λ i. false) (found (reservedBy (circuitAt (now (t .entry))) (circuits (now (t .entry))) reference) (λ i. false) true) ⌝ }
+fn stands_nowhere(t: &[u8], reference: Reference) -> bool
+    ensures { λ r. ⌜ r ≡ standsNowhere (circuitAt (now (t .entry))) (circuits (now (t .entry))) reference ⌝ }
 {
     match choice::held_by(t, reference) {
         Found::At(_) => false,
@@ -101,22 +102,24 @@ fn nowhere(t: &[u8], reference: Reference) -> bool
     }
 }
 
+// What is decided of a look-ahead.
 fn look_ahead(t: &[u8], e: Event) -> Outcome
     ensures { λ r. ⌜ r ≡ lookAhead (circuitAt (now (t .entry))) (circuits (now (t .entry))) e ⌝ }
 {
     let reference = e.reference;
-    if e.lfb != 0 {
+    if e.lfb != parameter::LFB_ALLOWED {
         return Outcome::Refuse(Refusal::NotAllowed);
     }
     if e.mark.level.routine() {
         return Outcome::Refuse(Refusal::ByRoutine);
     }
-    if !nowhere(t, reference) {
+    if !stands_nowhere(t, reference) {
         return Outcome::Refuse(Refusal::AlreadyThere);
     }
     chosen(t, e, Act::Reserve, Refusal::NoCircuitToReserve)
 }
 
+// What is decided of a release.
 fn release(t: &[u8], e: Event) -> Outcome
     ensures { λ r. ⌜ r ≡ release (circuitAt (now (t .entry))) (circuits (now (t .entry))) e ⌝ }
 {
@@ -127,6 +130,7 @@ fn release(t: &[u8], e: Event) -> Outcome
     }
 }
 
+// What is decided of a cancel.
 fn cancel(t: &[u8], e: Event) -> Outcome
     ensures { λ r. ⌜ r ≡ cancel (circuitAt (now (t .entry))) (circuits (now (t .entry))) e ⌝ }
 {
@@ -137,7 +141,7 @@ fn cancel(t: &[u8], e: Event) -> Outcome
     }
 }
 
-// By its kind.
+// What is decided of a well-formed event over a valid table, by the kind of the event.
 fn decision(t: &[u8], e: Event) -> Outcome
     ensures { λ r. ⌜ r ≡ rule.decision (circuitAt (now (t .entry))) (circuits (now (t .entry))) e ⌝ }
 {
@@ -151,16 +155,16 @@ fn decision(t: &[u8], e: Event) -> Outcome
     }
 }
 
-// What is decided, where the table is known to be valid or not.
-pub fn decide(t: &[u8], e: Event, good: bool) -> Outcome
-    requires { ⌜ good ≡ valid records (now t) ⌝ }
-    ensures { λ r. ⌜ r ≡ run.decide records (now (t .entry)) e ⌝ }
-    ensures { λ r. ⌜ Ready (now (t .entry)) r ⌝ }
+// What is decided of an event over a table; intact says whether the table is valid.
+pub fn outcome_of(t: &[u8], e: Event, intact: bool) -> Outcome
+    requires { ⌜ intact ≡ valid records (now t) ⌝ }
+    ensures outcome { λ r. ⌜ r ≡ outcomeOf records (now (t .entry)) e ⌝ }
+    ensures ready { λ r. ⌜ Ready (now (t .entry)) r ⌝ }
 {
     if !e.well_formed() {
         return Outcome::Refuse(Refusal::Malformed);
     }
-    if !good {
+    if !intact {
         return Outcome::Refuse(Refusal::TableNotValid);
     }
     decision(t, e)

@@ -12,15 +12,15 @@ use Rattle.rules.specs.declared.event.Event.{Event}
 use Rattle.rules.specs.declared.outcome.Act.the-variants.{Cancel}
 use Rattle.rules.specs.Circuit.{overdue, made}
 use Rattle.rules.specs.Run.{sweepTo}
-use Rattle.rules.specs.Records.{circuitAt, putCircuit, records}
+use Rattle.rules.specs.Records.{circuitAt, putCircuit, records, circuits}
 use Rattle.rules.proofs.Records.{count-put, circuit-off}
 
 module _ (t : List ℕ) (e : Event) where
-  pub swept-count : (m : ℕ) → length (sweepTo records t e m) / 32 ≡ length t / 32
+  pub swept-count : (m : ℕ) → length (sweepTo records t e m) / 32 ≡ circuits t
   unfolding records
   swept-count zero = refl
   swept-count (suc m) =
-      by-test (λ (u : List ℕ). length u / 32 ≡ length t / 32) (overdue (e .clock) (circuitAt t m)) _ (sweepTo records t e m)
+      by-test (λ (u : List ℕ). circuits u ≡ circuits t) (overdue (e .clock) (circuitAt t m)) _ (sweepTo records t e m)
       (λ _. count-put (sweepTo records t e m) m (made e Cancel (circuitAt t m)) ∙ swept-count m)
       (λ _. swept-count m)
 

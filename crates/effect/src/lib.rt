@@ -4,7 +4,7 @@ use rules::outcome::Act;
 use rules::outcome::Outcome;
 ghost use mathlib.Core.Path.{_≡_};
 ghost use mathlib.Core.Bool.{cond};
-ghost use Prim.Native.Nat.{_/_, _<_};
+ghost use Prim.Native.Nat.{_<_};
 ghost use Rattle.rules.specs.Circuit.{overdue, made};
 ghost use Rattle.rules.specs.Run.{sweepTo};
 ghost use Rattle.rules.specs.Run as run;

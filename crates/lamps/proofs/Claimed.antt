@@ -1,11 +1,10 @@
 -- What the lamp map shows of a table that the check accepts.
 use Prim.Native.Nat.{ℕ}
-use mathlib.Core.Path.{_≡_, refl, sym, ap, _∙_}
-use mathlib.Core.Bool.{Bool, true, false, cond}
+use mathlib.Core.Path.{_≡_, sym, ap, _∙_}
+use mathlib.Core.Bool.{Bool, cond}
 use mathlib.Core.List.{List}
-use native.Mathlib.Omega.{arith}
 use lib.Dec.{eqb}
-use borrow.Author.Tests.{eqb-true, eqb-false}
+use borrow.Author.Tests.{eqb-true}
 use Rattle.octets.proofs.Tests.{by-so}
 use Rattle.rules.specs.Records.{checkNumber}
 use Rattle.lamps.specs.declared.Lamps.{Lamps}

@@ -1,5 +1,5 @@
 -- Any two results that the contract of the lamp map allows coincide, and any two lowest lamps.
-use mathlib.Core.Path.{_≡_, sym, _∙_}
+use mathlib.Core.Path.{sym, _∙_}
 use Rattle.octets.proofs.Determined.{OneResult}
 use Rattle.lamps.proofs.lowest.Kinds as lowest-kinds
 use Rattle.lamps.proofs.lowest.Reads as lowest

@@ -6,7 +6,7 @@ use mathlib.Core.Bool.{Bool, false, cond}
 use mathlib.Core.List.{List}
 use native.Mathlib.Nat.{add-zero, add-suc}
 use native.Mathlib.Omega.{arith}
-use lib.ListN.{length, getD}
+use lib.ListN.{getD}
 use Rattle.rules.specs.declared.mark.Mark.{Mark}
 use Rattle.rules.specs.declared.circuit.Circuit.{Circuit}
 use Rattle.rules.specs.declared.search.Found.{Found}
@@ -14,7 +14,7 @@ use Rattle.rules.specs.declared.search.Found.the-variants.{At, Nothing}
 use Rattle.rules.specs.Search.{countTo, orElse, firstTo, bestTo}
 use Rattle.rules.specs.Circuit.{free, rank}
 use Rattle.rules.specs.Choice.{choice}
-use Rattle.rules.specs.Records.{circuitAt}
+use Rattle.rules.specs.Records.{circuitAt, circuits}
 use Rattle.rules.proofs.Searches.{FirstIs, first-is, first-none, first-cong}
 use Rattle.lamps.specs.Lamps.{lit, word, fourWords, bit, lampIn, numberIn, lowestIn, litMap}
 use Rattle.lamps.proofs.Words.{word-bit}
@@ -83,15 +83,15 @@ module _ (x : ℕ → Circuit) (n : ℕ) (fits : n ≤ 256) where
   )
 
 -- all this of a table's octets
-module _ (t : List ℕ) (fits : length t / 32 ≤ 256) where
+module _ (t : List ℕ) (fits : circuits t ≤ 256) where
   pub table-number : numberIn (litMap t .words) ≡ litMap t .lit
-  table-number = number-lit (circuitAt t) (length t / 32) fits
+  table-number = number-lit (circuitAt t) (circuits t) fits
 
-  pub table-lowest : lowestIn (litMap t .words) ≡ firstTo (λ i. free (circuitAt t i)) (length t / 32)
-  table-lowest = lowest-lit (circuitAt t) (length t / 32) fits
+  pub table-lowest : lowestIn (litMap t .words) ≡ firstTo (λ i. free (circuitAt t i)) (circuits t)
+  table-lowest = lowest-lit (circuitAt t) (circuits t) fits
 
-  pub table-taken : (m : Mark) (i : ℕ) → lowestIn (litMap t .words) ≡ At i → choice (circuitAt t) (length t / 32) m ≡ At i
-  table-taken = lowest-taken (circuitAt t) (length t / 32) fits
+  pub table-taken : (m : Mark) (i : ℕ) → lowestIn (litMap t .words) ≡ At i → choice (circuitAt t) (circuits t) m ≡ At i
+  table-taken = lowest-taken (circuitAt t) (circuits t) fits
 
-  pub table-none : (lowestIn (litMap t .words) ≡ Nothing) ↔ ((i : ℕ) → i < length t / 32 → free (circuitAt t i) ≡ false)
-  table-none = lowest-none (circuitAt t) (length t / 32) fits
+  pub table-none : (lowestIn (litMap t .words) ≡ Nothing) ↔ ((i : ℕ) → i < circuits t → free (circuitAt t i) ≡ false)
+  table-none = lowest-none (circuitAt t) (circuits t) fits

@@ -1,22 +1,21 @@
 -- 01, "Lamp map": the lowest lit lamp, if there is one, is the circuit that a search takes.
-use Prim.Native.Nat.{ℕ, _/_, _<_}
+use Prim.Native.Nat.{ℕ, _<_}
 use mathlib.Core.Path.{_≡_}
-use mathlib.Core.Bool.{true, false}
+use mathlib.Core.Bool.{false}
 use mathlib.Core.List.{List}
-use lib.ListN.{length}
 use Rattle.rules.specs.declared.mark.Mark.{Mark}
 use Rattle.rules.specs.declared.search.Found.the-variants.{At, Nothing}
 use Rattle.rules.specs.Circuit.{free}
 use Rattle.rules.specs.Choice.{choice}
-use Rattle.rules.specs.Records.{circuitAt}
+use Rattle.rules.specs.Records.{circuitAt, circuits}
 use Rattle.lamps.specs.Lamps.{lowestIn, lampMap}
 
 -- whatever the mark of the call that searches
 abbrev pub LowestTaken : Type 0
 LowestTaken =
-    (t : List ℕ) (m : Mark) (i : ℕ) → lampMap t .number ≡ 0 → lowestIn (lampMap t .words) ≡ At i → choice (circuitAt t) (length t / 32) m ≡ At i
+    (t : List ℕ) (m : Mark) (i : ℕ) → lampMap t .number ≡ 0 → lowestIn (lampMap t .words) ≡ At i → choice (circuitAt t) (circuits t) m ≡ At i
 
 -- and where no lamp is lit, no circuit is free
 abbrev pub NoneLit : Type 0
 NoneLit =
-    (t : List ℕ) → lampMap t .number ≡ 0 → lowestIn (lampMap t .words) ≡ Nothing → (i : ℕ) → i < length t / 32 → free (circuitAt t i) ≡ false
+    (t : List ℕ) → lampMap t .number ≡ 0 → lowestIn (lampMap t .words) ≡ Nothing → (i : ℕ) → i < circuits t → free (circuitAt t i) ≡ false

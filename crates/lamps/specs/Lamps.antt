@@ -2,13 +2,13 @@
 use Prim.Native.Nat.{ℕ, zero, suc, _+_, _*_, _/_, _%_, _^_}
 use mathlib.Core.Bool.{Bool, cond, _&&_}
 use mathlib.Core.List.{List, [], _∷_}
-use lib.ListN.{length, getD, replicate}
+use lib.ListN.{getD, replicate}
 use lib.Dec.{eqb, ltb}
 use Rattle.rules.specs.declared.circuit.Circuit.{Circuit}
 use Rattle.rules.specs.declared.search.Found.{Found}
 use Rattle.rules.specs.Search.{countTo, firstTo}
 use Rattle.rules.specs.Circuit.{free}
-use Rattle.rules.specs.Records.{circuitAt, checkNumber}
+use Rattle.rules.specs.Records.{circuitAt, checkNumber, circuits}
 use Rattle.lamps.specs.declared.Lamps.{Lamps}
 
 -- lamp c of a route is lit where circuit c is free; lamps past the table's end are dark
@@ -16,7 +16,7 @@ unfoldable pub lit : (ℕ → Circuit) → ℕ → ℕ → Bool
 lit x n c = ltb c n && free (x c)
 
 abbrev pub litAt : List ℕ → ℕ → Bool  -- lamp c of a table
-litAt t = lit (circuitAt t) (length t / 32)
+litAt t = lit (circuitAt t) (circuits t)
 
 -- the word of k lamps from lamp b on: lamp b at bit 0, each next lamp at the next bit
 unfoldable pub wordFrom : (ℕ → Bool) → ℕ → ℕ → ℕ
@@ -46,7 +46,7 @@ abbrev pub litRoute : (ℕ → Circuit) → ℕ → Lamps
 litRoute x n = record { number = 0; lit = countTo (λ i. free (x i)) n; words = fourWords (lit x n) }
 
 abbrev pub litMap : List ℕ → Lamps  -- the lamps of a table's circuits
-litMap t = litRoute (circuitAt t) (length t / 32)
+litMap t = litRoute (circuitAt t) (circuits t)
 
 abbrev pub darkMap : ℕ → Lamps  -- at 20 and 21 all are zero
 darkMap number = record { number = number; lit = 0; words = replicate 4 0 }

@@ -1,6 +1,6 @@
 -- A lost party, by its flag and the octets of its reference one by one.
 use Prim.Native.Nat.{ℕ, _+_, _%_}
-use mathlib.Core.Path.{_≡_, ap, ap₂, _∙_, refl}
+use mathlib.Core.Path.{_≡_, ap₂, _∙_, refl}
 use mathlib.Core.List.{List, [], _∷_, _++_}
 use native.Mathlib.Omega.{arith}
 use lib.ListN.{getD}

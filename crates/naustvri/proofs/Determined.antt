@@ -1,5 +1,5 @@
 -- For each function that C links any two results that its contract allows coincide, and so does what they leave in the buffers.
-use mathlib.Core.Path.{_≡_, sym, _∙_}
+use mathlib.Core.Path.{sym, _∙_}
 use denote.Ref.{now}
 use Rattle.octets.proofs.Determined.{OneResult, OneExit}
 use Rattle.naustvri.proofs.naustvri_read_precedence.Kinds as read-precedence-kinds

@@ -8,7 +8,7 @@ ghost use Rattle.route.specs.Entries.{eventNumber, eventTable, eventAnswer, lis
 
 #[no_mangle]
 pub extern "C" fn naustvri_read_precedence(octets: &[u8]) -> fields::precedence::Reading
-    ensures { λ r. ⌜ r ≡ precedence.readPrecedence (now (octets .entry)) ⌝ }
+    ensures reading { λ r. ⌜ r ≡ precedence.readPrecedence (now (octets .entry)) ⌝ }
 {
     fields::precedence::read(octets)
 }
@@ -18,15 +18,15 @@ pub extern "C" fn naustvri_write_precedence(
     buffer: &mut [u8],
     value: fields::precedence::Precedence,
 ) -> u8
-    ensures { λ r. ⌜ r ≡ precedence.writeNumber (now (buffer .entry)) value ⌝ }
-    ensures { λ _. ⌜ now (buffer .exit) ≡ precedence.writeBuffer (now (buffer .entry)) value ⌝ }
+    ensures number { λ r. ⌜ r ≡ precedence.writeNumber (now (buffer .entry)) value ⌝ }
+    ensures buffer { λ _. ⌜ now (buffer .exit) ≡ precedence.writeBuffer (now (buffer .entry)) value ⌝ }
 {
     fields::precedence::write(buffer, value)
 }
 
 #[no_mangle]
 pub extern "C" fn naustvri_read_reference(octets: &[u8]) -> fields::reference::Reading
-    ensures { λ r. ⌜ r ≡ reference.readReference (now (octets .entry)) ⌝ }
+    ensures reading { λ r. ⌜ r ≡ reference.readReference (now (octets .entry)) ⌝ }
 {
     fields::reference::read(octets)
 }
@@ -36,40 +36,40 @@ pub extern "C" fn naustvri_write_reference(
     buffer: &mut [u8],
     value: fields::reference::Reference,
 ) -> u8
-    ensures { λ r. ⌜ r ≡ reference.writeNumber (now (buffer .entry)) value ⌝ }
-    ensures { λ _. ⌜ now (buffer .exit) ≡ reference.writeBuffer (now (buffer .entry)) value ⌝ }
+    ensures number { λ r. ⌜ r ≡ reference.writeNumber (now (buffer .entry)) value ⌝ }
+    ensures buffer { λ _. ⌜ now (buffer .exit) ≡ reference.writeBuffer (now (buffer .entry)) value ⌝ }
 {
     fields::reference::write(buffer, value)
 }
 
 #[no_mangle]
 pub extern "C" fn naustvri_check(table: &[u8]) -> u8
-    ensures { λ r. ⌜ r ≡ checkNumber (now (table .entry)) ⌝ }
+    ensures number { λ r. ⌜ r ≡ checkNumber (now (table .entry)) ⌝ }
 {
     validity::check(table)
 }
 
 #[no_mangle]
 pub extern "C" fn naustvri_event(table: &mut [u8], event: &[u8], answer: &mut [u8]) -> u8
-    ensures { λ r. ⌜ r ≡ eventNumber (now (table .entry)) (now (event .entry)) (now (answer .entry)) ⌝ }
-    ensures { λ _. ⌜ now (table .exit) ≡ eventTable (now (table .entry)) (now (event .entry)) (now (answer .entry)) ⌝ }
-    ensures { λ _. ⌜ now (answer .exit) ≡ eventAnswer (now (table .entry)) (now (event .entry)) (now (answer .entry)) ⌝ }
+    ensures number { λ r. ⌜ r ≡ eventNumber (now (table .entry)) (now (event .entry)) (now (answer .entry)) ⌝ }
+    ensures table { λ _. ⌜ now (table .exit) ≡ eventTable (now (table .entry)) (now (event .entry)) (now (answer .entry)) ⌝ }
+    ensures answer { λ _. ⌜ now (answer .exit) ≡ eventAnswer (now (table .entry)) (now (event .entry)) (now (answer .entry)) ⌝ }
 {
     route::event(table, event, answer)
 }
 
 #[no_mangle]
 pub extern "C" fn naustvri_list(table: &mut [u8], events: &[u8], answers: &mut [u8]) -> u8
-    ensures { λ r. ⌜ r ≡ listNumber (now (table .entry)) (now (events .entry)) (now (answers .entry)) ⌝ }
-    ensures { λ _. ⌜ now (table .exit) ≡ listTable (now (table .entry)) (now (events .entry)) (now (answers .entry)) ⌝ }
-    ensures { λ _. ⌜ now (answers .exit) ≡ listAnswers (now (table .entry)) (now (events .entry)) (now (answers .entry)) ⌝ }
+    ensures number { λ r. ⌜ r ≡ listNumber (now (table .entry)) (now (events .entry)) (now (answers .entry)) ⌝ }
+    ensures table { λ _. ⌜ now (table .exit) ≡ listTable (now (table .entry)) (now (events .entry)) (now (answers .entry)) ⌝ }
+    ensures answers { λ _. ⌜ now (answers .exit) ≡ listAnswers (now (table .entry)) (now (events .entry)) (now (answers .entry)) ⌝ }
 {
     route::list(table, events, answers)
 }
 
 #[no_mangle]
 pub extern "C" fn naustvri_lamps(table: &[u8]) -> lamps::Lamps
-    ensures { λ r. ⌜ r ≡ lampMap (now (table .entry)) ⌝ }
+    ensures reading { λ r. ⌜ r ≡ lampMap (now (table .entry)) ⌝ }
 {
     lamps::map(table)
 }

@@ -21,7 +21,7 @@ use Rattle.rules.specs.declared.search.Found.{Found}
 use Rattle.rules.specs.declared.search.Found.the-variants.{At, Nothing}
 use Rattle.rules.specs.Circuit.{isOf}
 use Rattle.rules.specs.Search.{orElse, firstTo, found}
-use Rattle.rules.specs.Valid.{partNo, clash, repeated}
+use Rattle.rules.specs.Valid.{partNumbered, clash, repeated}
 use Rattle.rules.proofs.Searches.{first-cong, nothing-found, some-found}
 use Rattle.references.specs.Filter.{spread, wordOf, bitsIn, wordFor, already, standsTo, Grown, Seen}
 
@@ -104,28 +104,28 @@ or-nothing Nothing = refl
 
 module _ (x : ℕ → Circuit) (r : List ℕ) where
   -- the call stands in part k
-  pub stands-at : (n k : ℕ) → k < n → isOf r (partNo x k) ≡ true → standsTo x r n ≡ true
+  pub stands-at : (n k : ℕ) → k < n → isOf r (partNumbered x k) ≡ true → standsTo x r n ≡ true
   unfolding standsTo
-  stands-at n k l h = some-found (λ i. isOf r (partNo x i)) n k l h
+  stands-at n k l h = some-found (λ i. isOf r (partNumbered x i)) n k l h
 
   -- it does not stand in part n
-  pub stands-past : (n : ℕ) → isOf r (partNo x n) ≡ false → standsTo x r n ≡ standsTo x r (n + 1)
+  pub stands-past : (n : ℕ) → isOf r (partNumbered x n) ≡ false → standsTo x r n ≡ standsTo x r (n + 1)
   unfolding standsTo
   stands-past n h =
       sym
-      (ap (λ (m : ℕ). found (firstTo (λ i. isOf r (partNo x i)) m) (λ i. true) false) (add-one n)
-      ∙ ap (λ (b : Bool). found (orElse (firstTo (λ i. isOf r (partNo x i)) n) (cond b (At n) Nothing)) (λ i. true) false) h
-      ∙ ap (λ (f : Found). found f (λ i. true) false) (or-nothing (firstTo (λ i. isOf r (partNo x i)) n)))
+      (ap (λ (m : ℕ). found (firstTo (λ i. isOf r (partNumbered x i)) m) (λ i. true) false) (add-one n)
+      ∙ ap (λ (b : Bool). found (orElse (firstTo (λ i. isOf r (partNumbered x i)) n) (cond b (At n) Nothing)) (λ i. true) false) h
+      ∙ ap (λ (f : Found). found f (λ i. true) false) (or-nothing (firstTo (λ i. isOf r (partNumbered x i)) n)))
 
 -- ---- part j, which code has read as p
-module _ (x : ℕ → Circuit) (j : ℕ) (w : List ℕ) (m : Seen x w j) (p : Part) (y : p ≡ partNo x j) where
+module _ (x : ℕ → Circuit) (j : ℕ) (w : List ℕ) (m : Seen x w j) (p : Part) (y : p ≡ partNumbered x j) where
   -- it is new if it is absent, or one of its bits is not set
   pub new-part : p .present && already w (p .reference) ≡ false → repeated x j ≡ false
   unfolding repeated
   new-part h =
-      nothing-found (λ k. clash (partNo x k) (partNo x j)) j (λ k. true) false
+      nothing-found (λ k. clash (partNumbered x k) (partNumbered x j)) j (λ k. true) false
       (λ k l.
-      no-clash (partNo x k) (partNo x j)
+      no-clash (partNumbered x k) (partNumbered x j)
       (λ a b e.
       let set = and-both _ _ b (subst (λ (r : List ℕ). already w r ≡ true) e (m .set k l a)) in
       true≢false (sym set ∙ ap (λ (q : Part). q .present && already w (q .reference)) (sym y) ∙ h)))
@@ -134,11 +134,11 @@ module _ (x : ℕ → Circuit) (j : ℕ) (w : List ℕ) (m : Seen x w j) (p : Pa
   pub by-search : p .present && already w (p .reference) ≡ true → standsTo x (p .reference) j ≡ repeated x j
   unfolding repeated standsTo
   by-search h =
-      let here : partNo x j .present ≡ true = ap (λ (q : Part). q .present) (sym y) ∙ and-left (p .present) (already w (p .reference)) h in
+      let here : partNumbered x j .present ≡ true = ap (λ (q : Part). q .present) (sym y) ∙ and-left (p .present) (already w (p .reference)) h in
       ap (λ (q : Part). standsTo x (q .reference) j) y
       ∙ ap (λ (f : Found). found f (λ k. true) false)
-      (first-cong (λ k. isOf (partNo x j .reference) (partNo x k)) (λ k. clash (partNo x k) (partNo x j)) j
-      (λ k l. ap (λ (b : Bool). b && same (partNo x k .reference) (partNo x j .reference)) (sym (and-true (partNo x k .present)) ∙ ap (λ (b : Bool). partNo x k .present && b) (sym here))))
+      (first-cong (λ k. isOf (partNumbered x j .reference) (partNumbered x k)) (λ k. clash (partNumbered x k) (partNumbered x j)) j
+      (λ k l. ap (λ (b : Bool). b && same (partNumbered x k .reference) (partNumbered x j .reference)) (sym (and-true (partNumbered x k .present)) ∙ ap (λ (b : Bool). partNumbered x k .present && b) (sym here))))
 
   -- it is noted
   pub seen-more : (v : List ℕ) → Grown w v (p .reference) (p .present) → Seen x v (j + 1)
@@ -147,7 +147,7 @@ module _ (x : ℕ → Circuit) (j : ℕ) (w : List ℕ) (m : Seen x w j) (p : Pa
         full = g .long ∙ m .full;
         set =
             λ k l.
-            grow (λ (k : ℕ). partNo x k .present ≡ true → already v (partNo x k .reference) ≡ true) j
+            grow (λ (k : ℕ). partNumbered x k .present ≡ true → already v (partNumbered x k .reference) ≡ true) j
             (λ i l p. g .kept _ (m .set i l p)) (subst (λ (q : Part). q .present ≡ true → already v (q .reference) ≡ true) y (g .here)) k
             (subst (λ (n : ℕ). k < n) (add-one j) l);
       }

@@ -10,7 +10,7 @@ use Rattle.octets.specs.Span.{number}
 use Rattle.rules.specs.declared.circuit.Circuit.{Circuit}
 use Rattle.rules.specs.Circuit.{isOf}
 use Rattle.rules.specs.Search.{firstTo, found}
-use Rattle.rules.specs.Valid.{partNo}
+use Rattle.rules.specs.Valid.{partNumbered}
 
 -- the number that a reference is noted by
 unfoldable pub spread : List ℕ → ℕ
@@ -41,8 +41,8 @@ pub record Grown (w v r : List ℕ) (present : Bool) : Type 0 where
 -- each part before j that is present has both its bits set
 pub record Seen (x : ℕ → Circuit) (w : List ℕ) (j : ℕ) : Type 0 where
   pub full : length w ≡ 64
-  pub set : (k : ℕ) → k < j → partNo x k .present ≡ true → already w (partNo x k .reference) ≡ true
+  pub set : (k : ℕ) → k < j → partNumbered x k .present ≡ true → already w (partNumbered x k .reference) ≡ true
 
 -- the call with reference r stands in one of the first n parts
 unfoldable pub standsTo : (ℕ → Circuit) → List ℕ → ℕ → Bool
-standsTo x r n = found (firstTo (λ k. isOf r (partNo x k)) n) (λ k. true) false
+standsTo x r n = found (firstTo (λ k. isOf r (partNumbered x k)) n) (λ k. true) false

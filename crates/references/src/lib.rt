@@ -1,6 +1,7 @@
 // Whether a call reference stands in two parts. A filter of bits says at once of most references that they are new;
 // only where both bits of one are set already are the earlier parts searched.
 use rules::part::Part;
+use rules::part::Reference;
 use rules::search::Found;
 ghost use mathlib.Core.Path.{_≡_};
 ghost use mathlib.Core.Bool.{true, _&&_, _||_};
@@ -8,7 +9,7 @@ ghost use Prim.Native.Nat.{_+_, _*_, _/_, _<_, _≤_};
 ghost use lib.ListN.{length};
 ghost use Rattle.rules.specs.Circuit.{isOf};
 ghost use Rattle.rules.specs.Search.{firstTo};
-ghost use Rattle.rules.specs.Valid.{partNo, repeated};
+ghost use Rattle.rules.specs.Valid.{partNumbered, repeated};
 ghost use Rattle.rules.specs.Records.{circuits, circuitAt};
 ghost use Rattle.references.specs.Filter.{bitsIn, already, standsTo, Grown, Seen};
 ghost use Rattle.references.specs.Filter as filter;
@@ -20,7 +21,7 @@ fn wide(x: u8) -> u64
 }
 
 // A number in which each octet of a reference tells on many bits, so that those of like references differ.
-fn spread(r: [u8; 5]) -> u64
+fn spread(r: Reference) -> u64
     ensures { λ v. ⌜ v ≡ filter.spread r ⌝ }
 {
     let low = octets::join_four(r[0], r[1], r[2], r[3]) as u64;
@@ -35,7 +36,7 @@ fn bits(v: u64) -> u64
 }
 
 // The bits of a reference are set; whether they were.
-fn set_bits(w: &mut [u64; 64], r: [u8; 5]) -> bool
+fn set_bits(w: &mut [u64; 64], r: Reference) -> bool
     requires { ⌜ length (now w) ≡ 64 ⌝ }
     ensures { λ b. ⌜ b ≡ already (now (w .entry)) r ⌝ }
     ensures { λ _. ⌜ Grown (now (w .entry)) (now (w .exit)) r true ⌝ }
@@ -59,12 +60,12 @@ fn may_repeat(w: &mut [u64; 64], p: Part) -> bool
 }
 
 // The call with this reference stands on circuit i.
-fn stands_on(t: &[u8], i: usize, r: [u8; 5]) -> bool
+fn stands_on(t: &[u8], i: usize, r: Reference) -> bool
     requires { ⌜ i < circuits (now t) ⌝ }
-    ensures { λ b. ⌜ b ≡ isOf r (partNo (circuitAt (now (t .entry))) (2 * i)) || isOf r (partNo (circuitAt (now (t .entry))) (2 * i + 1)) ⌝ }
+    ensures { λ b. ⌜ b ≡ isOf r (partNumbered (circuitAt (now (t .entry))) (2 * i)) || isOf r (partNumbered (circuitAt (now (t .entry))) (2 * i + 1)) ⌝ }
 {
-    let holder = table::part_no(t, 2 * i);
-    let reservation = table::part_no(t, 2 * i + 1);
+    let holder = table::part_numbered(t, 2 * i);
+    let reservation = table::part_numbered(t, 2 * i + 1);
     if holder.is_of(r) {
         return true;
     }
@@ -72,7 +73,7 @@ fn stands_on(t: &[u8], i: usize, r: [u8; 5]) -> bool
 }
 
 // It stands on a circuit below i.
-fn stands_below(t: &[u8], i: usize, r: [u8; 5]) -> bool
+fn stands_below(t: &[u8], i: usize, r: Reference) -> bool
     requires { ⌜ i ≤ circuits (now t) ⌝ }
     ensures { λ b. ⌜ b ≡ standsTo (circuitAt (now (t .entry))) r (2 * i) ⌝ }
 {
@@ -92,7 +93,7 @@ fn note_holder(t: &[u8], w: &mut [u64; 64], i: usize) -> bool
     ensures { λ b. ⌜ b ≡ repeated (circuitAt (now (t .entry))) (2 * i) ⌝ }
     ensures { λ _. ⌜ Seen (circuitAt (now (t .entry))) (now (w .exit)) (2 * i + 1) ⌝ }
 {
-    let p = table::part_no(t, 2 * i);
+    let p = table::part_numbered(t, 2 * i);
     let r = p.reference;
     if !may_repeat(w, p) {
         return false;
@@ -106,8 +107,8 @@ fn note_reservation(t: &[u8], w: &mut [u64; 64], i: usize) -> bool
     ensures { λ b. ⌜ b ≡ repeated (circuitAt (now (t .entry))) (2 * i + 1) ⌝ }
     ensures { λ _. ⌜ Seen (circuitAt (now (t .entry))) (now (w .exit)) (2 * i + 1 + 1) ⌝ }
 {
-    let holder = table::part_no(t, 2 * i);
-    let p = table::part_no(t, 2 * i + 1);
+    let holder = table::part_numbered(t, 2 * i);
+    let p = table::part_numbered(t, 2 * i + 1);
     let r = p.reference;
     if !may_repeat(w, p) {
         return false;
@@ -120,9 +121,9 @@ fn note_reservation(t: &[u8], w: &mut [u64; 64], i: usize) -> bool
 
 // The first part whose reference stands in an earlier one.
 pub fn first_repeated(t: &[u8]) -> Found
-    ensures { λ r. ⌜ r ≡ firstTo (repeated (circuitAt (now (t .entry)))) (2 * (circuits (now (t .entry)))) ⌝ }
+    ensures { λ r. ⌜ r ≡ firstTo (repeated (circuitAt (now (t .entry)))) (2 * circuits (now (t .entry))) ⌝ }
 {
-    let n = t.len() / 32;
+    let n = table::count(t);
     let mut w = [0u64; 64];
     let mut i = 0;
     while i < n {

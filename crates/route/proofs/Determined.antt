@@ -1,5 +1,5 @@
 -- For each entry any two results that its contract allows coincide, and so does what they leave in the table and in the answers.
-use mathlib.Core.Path.{_≡_, sym, _∙_}
+use mathlib.Core.Path.{sym, _∙_}
 use denote.Ref.{now}
 use Rattle.octets.proofs.Determined.{OneResult, OneExit}
 use Rattle.route.proofs.event.Kinds as event-kinds

@@ -5,42 +5,42 @@ use mathlib.Core.List.{List, [], _∷_, _++_, flatten}
 use lib.ListN.{length}
 use lib.Dec.{eqb}
 use Rattle.octets.specs.Span.{span}
-use Rattle.rules.specs.Numbers.{lengthWrong}
-use Rattle.rules.specs.Run.{after, answered, answer, run, answers}
-use Rattle.rules.specs.Records.{records, tableLength, listLength}
+use Rattle.rules.specs.Numbers.{done, wrongLength}
+use Rattle.rules.specs.Run.{after, answered, answerRecord, run, answerRecords}
+use Rattle.rules.specs.Records.{records, tableLength, eventSize, eventIn, answerSize, listLength}
 
 -- ---- one event: table t, event e, answer a
--- a table, an event of 16 octets and an answer of 16
+-- a table, the octets of one event and of one answer
 unfoldable pub eventLengths : List ℕ → List ℕ → List ℕ → Bool
-eventLengths t e a = tableLength (length t) && (eqb (length e) 16 && eqb (length a) 16)
+eventLengths t e a = tableLength (length t) && (eqb (length e) eventSize && eqb (length a) answerSize)
 
 unfoldable pub eventNumber : List ℕ → List ℕ → List ℕ → ℕ  -- the number of its answer
-eventNumber t e a = cond (eventLengths t e a) (answered records t e .number) lengthWrong
+eventNumber t e a = cond (eventLengths t e a) (answered records t e .number) wrongLength
 
 unfoldable pub eventTable : List ℕ → List ℕ → List ℕ → List ℕ  -- the table afterwards
 eventTable t e a = cond (eventLengths t e a) (after records t e) t
 
 unfoldable pub eventAnswer : List ℕ → List ℕ → List ℕ → List ℕ  -- the answer record
-eventAnswer t e a = cond (eventLengths t e a) (answer records t e) a
+eventAnswer t e a = cond (eventLengths t e a) (answerRecord records t e) a
 
 -- ---- a list: table t, events es, answer places
-abbrev pub eventsTo : List ℕ → ℕ → List (List ℕ)  -- the first n events, 16 octets each
+abbrev pub eventsTo : List ℕ → ℕ → List (List ℕ)  -- the first n events
 eventsTo es zero = []
-eventsTo es (suc n) = eventsTo es n ++ (span es (16 * n) 16 ∷ [])
+eventsTo es (suc n) = eventsTo es n ++ (eventIn es n ∷ [])
 
 unfoldable pub eventsIn : List ℕ → List (List ℕ)  -- all of them
-eventsIn es = eventsTo es (length es / 16)
+eventsIn es = eventsTo es (length es / eventSize)
 
 -- a table, 0 to 4,096 events and exactly one answer place for each
 unfoldable pub listLengths : List ℕ → List ℕ → List ℕ → Bool
 listLengths t es places = tableLength (length t) && listLength (length es) (length places)
 
 unfoldable pub listNumber : List ℕ → List ℕ → List ℕ → ℕ  -- a list returns only 0 or 20
-listNumber t es places = cond (listLengths t es places) 0 lengthWrong
+listNumber t es places = cond (listLengths t es places) done wrongLength
 
 -- a list equals its events applied one by one
 unfoldable pub listTable : List ℕ → List ℕ → List ℕ → List ℕ
 listTable t es places = cond (listLengths t es places) (run records t (eventsIn es)) t
 
 unfoldable pub listAnswers : List ℕ → List ℕ → List ℕ → List ℕ  -- the answer record of each, one after another
-listAnswers t es places = cond (listLengths t es places) (flatten (answers records t (eventsIn es))) places
+listAnswers t es places = cond (listLengths t es places) (flatten (answerRecords records t (eventsIn es))) places

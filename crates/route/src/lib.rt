@@ -1,82 +1,96 @@
 // One event applied to a table, and a list of events: what is decided, what is answered, what becomes of the table.
+use events::ANSWER_SIZE;
+use events::EVENT_SIZE;
+use events::MOST_EVENTS;
+use rules::number;
 ghost use mathlib.Core.Path.{_≡_};
 ghost use mathlib.Core.Bool.{_&&_};
 ghost use mathlib.Core.List.{flatten};
 ghost use Prim.Native.Nat.{_+_, _*_, _/_, _≤_};
 ghost use lib.ListN.{length};
 ghost use lib.Dec.{eqb};
-ghost use Rattle.octets.specs.Span.{span, put};
+ghost use Rattle.octets.specs.Span.{put};
 ghost use Rattle.rules.specs.Valid.{valid};
-ghost use Rattle.rules.specs.Run.{after, answered, answer, run, answers};
-ghost use Rattle.rules.specs.Records.{circuits, records, tableLength, listLength};
+ghost use Rattle.rules.specs.Run.{after, answered, answerRecord, run, answerRecords};
+ghost use Rattle.rules.specs.Records.{circuits, mostCircuits, tableLength, eventSize, eventIn, answerSize, listLength, records};
 ghost use Rattle.route.specs.Entries.{eventNumber, eventTable, eventAnswer, eventsTo, listNumber, listTable, listAnswers};
 
-// The event at place o, applied to a table that is known to be valid or not; its answer at the same place.
-fn apply(t: &mut [u8], es: &[u8], answers: &mut [u8], o: usize, good: bool) -> u8
-    requires { ⌜ (circuits (now t) ≤ 256) × (o + 16 ≤ length (now es)) × (o + 16 ≤ length (now answers)) × (good ≡ valid records (now t)) ⌝ }
-    ensures number { λ r. ⌜ r ≡ answered records (now (t .entry)) (span (now (es .entry)) o 16) .number ⌝ }
-    ensures table { λ _. ⌜ now (t .exit) ≡ after records (now (t .entry)) (span (now (es .entry)) o 16) ⌝ }
-    ensures answers { λ _. ⌜ now (answers .exit) ≡ put (now (answers .entry)) o (answer records (now (t .entry)) (span (now (es .entry)) o 16)) ⌝ }
+// Event k applied to a table, and its answer written as answer k; intact says whether the table is valid. The answer names the losers,
+// so it is made of the table as it was; each step reads the circuit that it needs anew, since the compiler then keeps none in memory.
+fn apply(t: &mut [u8], es: &[u8], answers: &mut [u8], k: usize, intact: bool) -> u8
+    requires { ⌜ circuits (now t) ≤ mostCircuits ⌝ }
+    requires { ⌜ eventSize * k + eventSize ≤ length (now es) ⌝ }
+    requires { ⌜ answerSize * k + answerSize ≤ length (now answers) ⌝ }
+    requires { ⌜ intact ≡ valid records (now t) ⌝ }
+    ensures number { λ r. ⌜ r ≡ answered records (now (t .entry)) (eventIn (now (es .entry)) k) .number ⌝ }
+    ensures table { λ _. ⌜ now (t .exit) ≡ after records (now (t .entry)) (eventIn (now (es .entry)) k) ⌝ }
+    ensures answers { λ _. ⌜ now (answers .exit)
+        ≡ put (now (answers .entry)) (answerSize * k) (answerRecord records (now (t .entry)) (eventIn (now (es .entry)) k)) ⌝ }
 {
-    let e = events::read(es, o);
-    let outcome = decision::decide(t, e, good);
-    let answer = answer::answer(t, e, outcome);
+    let e = events::read(es, k);
+    let outcome = decision::outcome_of(t, e, intact);
+    let answer = answer::answered(t, e, outcome);
     effect::effect(t, e, outcome);
-    events::write(answers, o, answer);
+    events::write(answers, k, answer);
     answer.number
 }
 
-// The lengths of a table, an event and its answer.
+// The lengths of a table, an event and its answer are right.
 fn event_lengths(t: usize, e: usize, a: usize) -> bool
-    ensures number { λ r. ⌜ r ≡ tableLength t && (eqb e 16 && eqb a 16) ⌝ }
+    ensures { λ r. ⌜ r ≡ tableLength t && (eqb e eventSize && eqb a answerSize) ⌝ }
 {
     if !table::right_length(t) {
         return false;
     }
-    if e != 16 {
+    if e != EVENT_SIZE {
         return false;
     }
-    a == 16
+    a == ANSWER_SIZE
 }
 
 // One event: its number is given back and stands in the answer; at 20 nothing is written.
 pub fn event(t: &mut [u8], e: &[u8], a: &mut [u8]) -> u8
     ensures number { λ r. ⌜ r ≡ eventNumber (now (t .entry)) (now (e .entry)) (now (a .entry)) ⌝ }
     ensures table { λ _. ⌜ now (t .exit) ≡ eventTable (now (t .entry)) (now (e .entry)) (now (a .entry)) ⌝ }
-    ensures answers { λ _. ⌜ now (a .exit) ≡ eventAnswer (now (t .entry)) (now (e .entry)) (now (a .entry)) ⌝ }
+    ensures answer { λ _. ⌜ now (a .exit) ≡ eventAnswer (now (t .entry)) (now (e .entry)) (now (a .entry)) ⌝ }
 {
     if !event_lengths(t.len(), e.len(), a.len()) {
-        return 20;
+        return number::WRONG_LENGTH;
     }
-    let good = validity::valid(t);
-    apply(t, e, a, 0, good)
+    let intact = validity::valid(t);
+    apply(t, e, a, 0, intact)
 }
 
-// The lengths of a table, its events and their answer places.
+// The lengths of a table, its events and their answer places are right.
 fn list_lengths(t: usize, es: usize, places: usize) -> bool
-    ensures number { λ r. ⌜ r ≡ tableLength t && listLength es places ⌝ }
+    ensures { λ r. ⌜ r ≡ tableLength t && listLength es places ⌝ }
 {
+    let n = es / EVENT_SIZE;
     if !table::right_length(t) {
         return false;
     }
-    if es % 16 != 0 {
+    if es % EVENT_SIZE != 0 {
         return false;
     }
-    if 4096 < es / 16 {
+    if MOST_EVENTS < n {
         return false;
     }
-    places == es
+    places == ANSWER_SIZE * n
 }
 
 // The first n events, one after another. The table is looked at once, since no event makes it valid or not valid.
-fn each(t: &mut [u8], es: &[u8], places: &mut [u8], n: usize, good: bool)
-    requires { ⌜ (circuits (now t) ≤ 256) × (16 * n ≤ length (now es)) × (16 * n ≤ length (now places)) × (good ≡ valid records (now t)) ⌝ }
+fn each(t: &mut [u8], es: &[u8], places: &mut [u8], n: usize, intact: bool)
+    requires { ⌜ circuits (now t) ≤ mostCircuits ⌝ }
+    requires { ⌜ eventSize * n ≤ length (now es) ⌝ }
+    requires { ⌜ answerSize * n ≤ length (now places) ⌝ }
+    requires { ⌜ intact ≡ valid records (now t) ⌝ }
     ensures table { λ _. ⌜ now (t .exit) ≡ run records (now (t .entry)) (eventsTo (now (es .entry)) n) ⌝ }
-    ensures answers { λ _. ⌜ now (places .exit) ≡ put (now (places .entry)) 0 (flatten (answers records (now (t .entry)) (eventsTo (now (es .entry)) n))) ⌝ }
+    ensures answers { λ _. ⌜ now (places .exit)
+        ≡ put (now (places .entry)) 0 (flatten (answerRecords records (now (t .entry)) (eventsTo (now (es .entry)) n))) ⌝ }
 {
     let mut k = 0;
     while k < n {
-        apply(t, es, places, 16 * k, good);
+        apply(t, es, places, k, intact);
         k += 1;
     }
 }
@@ -88,9 +102,9 @@ pub fn list(t: &mut [u8], es: &[u8], places: &mut [u8]) -> u8
     ensures answers { λ _. ⌜ now (places .exit) ≡ listAnswers (now (t .entry)) (now (es .entry)) (now (places .entry)) ⌝ }
 {
     if !list_lengths(t.len(), es.len(), places.len()) {
-        return 20;
+        return number::WRONG_LENGTH;
     }
-    let good = validity::valid(t);
-    each(t, es, places, es.len() / 16, good);
-    0
+    let intact = validity::valid(t);
+    each(t, es, places, es.len() / EVENT_SIZE, intact);
+    number::DONE
 }

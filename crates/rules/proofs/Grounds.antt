@@ -19,10 +19,10 @@ use Rattle.rules.specs.Search.{found}
 use Rattle.rules.specs.Circuit.{isRoutine, outranks, sameMark, isOf, free, takeable}
 use Rattle.rules.specs.Choice.{heldBy, reservedBy, choice}
 use Rattle.rules.specs.Event.{marked, wellFormed}
-use Rattle.rules.specs.Decision.{onReservation, blocked, setUp, lookAhead, release, cancel, decision}
+use Rattle.rules.specs.Decision.{standsNowhere, onReservation, blocked, setUp, lookAhead, release, cancel, decision}
 use Rattle.rules.specs.Layout.{Layout}
 use Rattle.rules.specs.Valid.{valid}
-use Rattle.rules.specs.Run.{decide}
+use Rattle.rules.specs.Run.{outcomeOf}
 use Rattle.rules.proofs.Searches.{by-first}
 use Rattle.rules.proofs.Choice.{ChoiceIs, choice-is}
 
@@ -94,17 +94,22 @@ module _ (x : ℕ → Circuit) (n : ℕ) (e : Event) where
       (λ q. tt))
       (λ b. by-choice (Do Seize) (Refuse (blocked e)) (λ i l o. record { set-up = k; well-marked = m; there = l; given = inr (o, (a, b)) }) tt))
 
+  nowhere : standsNowhere x n (e .reference) ≡ true → Nowhere
+  unfolding heldBy reservedBy
+  nowhere =
+      by-first (λ (b : Bool). b ≡ true → Nowhere) Held n (λ i. false) _ (λ i l h z. absurd (true≢false (sym z)))
+      (λ a. by-first (λ (b : Bool). b ≡ true → Nowhere) Reserved n (λ i. false) true (λ i l h z. absurd (true≢false (sym z))) (λ b z. (a, b)))
+
   by-look-ahead : e .kind ≡ 3 → marked e ≡ true → Grounds (lookAhead x n e)
-  unfolding lookAhead heldBy reservedBy
+  unfolding lookAhead
   by-look-ahead k m =
       by-test Grounds (eqb (e .lfb) allowed) _ (Refuse NotAllowed)
       (λ q.
       by-test Grounds (not (isRoutine (e .mark .level))) _ (Refuse ByRoutine)
       (λ q.
-      by-first Grounds Held n (λ i. Refuse AlreadyThere) _ (λ i l h. tt)
-      (λ a.
-      by-first Grounds Reserved n (λ i. Refuse AlreadyThere) _ (λ i l h. tt)
-      (λ b. by-choice (Do Reserve) (Refuse NoCircuitToReserve) (λ i l o. record { look-ahead = k; well-marked = m; there = l; given = (o, (a, b)) }) tt)))
+      by-test Grounds (standsNowhere x n (e .reference)) _ (Refuse AlreadyThere)
+      (λ s. by-choice (Do Reserve) (Refuse NoCircuitToReserve) (λ i l o. record { look-ahead = k; well-marked = m; there = l; given = (o, nowhere s) }) tt)
+      (λ s. tt))
       (λ q. tt))
       (λ q. tt)
 
@@ -112,15 +117,15 @@ module _ (x : ℕ → Circuit) (n : ℕ) (e : Event) where
   unfolding wellFormed decision release cancel heldBy reservedBy
   grounds =
       by-kind Grounds (eqb (e .kind) 1) (marked e) _ (setUp x n e) _ (λ k m. by-set-up (eqb-true (e .kind) 1 k) m)
-      (by-kind Grounds (eqb (e .kind) 2) (e .plain) _ (release x n e) _
+      (by-kind Grounds (eqb (e .kind) 2) (e .parameterless) _ (release x n e) _
       (λ k m. by-first Grounds Held n (Do Release) (Refuse NotThere) (λ i l h. record { kind = eqb-true (e .kind) 2 k; there = l; own = h }) (λ a. tt))
       (by-kind Grounds (eqb (e .kind) 3) (marked e) _ (lookAhead x n e) _ (λ k m. by-look-ahead (eqb-true (e .kind) 3 k) m)
-      (by-kind Grounds (eqb (e .kind) 4) (e .plain) _ (cancel x n e) Clock
+      (by-kind Grounds (eqb (e .kind) 4) (e .parameterless) _ (cancel x n e) Clock
       (λ k m. by-first Grounds Reserved n (Do Cancel) (Refuse NotThere) (λ i l h. record { kind = eqb-true (e .kind) 4 k; there = l; own = h }) (λ b. tt))
-      (λ w. by-so (eqb (e .kind) 5) (eqb-true (e .kind) 5) (λ k. absurd (true≢false (sym w ∙ ap (λ (b : Bool). cond b (e .plain && e .bare) false) k)))))))
+      (λ w. by-so (eqb (e .kind) 5) (eqb-true (e .kind) 5) (λ k. absurd (true≢false (sym w ∙ ap (λ (b : Bool). cond b (e .parameterless && e .referenceless) false) k)))))))
 
-pub decided : {S : Type 0} (L : Layout S) (s : S) (e : Event) → Grounds (L .view s) (L .count s) e (decide L s e)
-unfolding decide
+pub decided : {S : Type 0} (L : Layout S) (s : S) (e : Event) → Grounds (L .view s) (L .count s) e (outcomeOf L s e)
+unfolding outcomeOf
 decided L s e =
     let P = Grounds (L .view s) (L .count s) e in
     by-test P (wellFormed e) _ (Refuse Malformed)

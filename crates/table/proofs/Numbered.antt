@@ -1,21 +1,20 @@
 -- Part k of a table stands where its circuit and its side put it.
 use Prim.Native.Nat.{ℕ, zero, suc, _+_, _*_, _/_, _%_}
 use mathlib.Core.Path.{_≡_, refl, sym, ap, _∙_}
-use mathlib.Core.Bool.{Bool, cond}
+use mathlib.Core.Bool.{cond}
 use mathlib.Core.List.{List}
 use native.Mathlib.Omega.{arith}
 use lib.Dec.{eqb}
-use Rattle.rules.specs.declared.part.Part.{Part}
-use Rattle.rules.specs.Valid.{partNo}
+use Rattle.rules.specs.Valid.{partNumbered}
 use Rattle.rules.specs.Records.{partAt, circuitAt}
 
-pub numbered : (t : List ℕ) (k : ℕ) → partAt t (32 * (k / 2) + 12 * (k % 2)) ≡ partNo (circuitAt t) k
+pub numbered : (t : List ℕ) (k : ℕ) → partAt t (32 * (k / 2) + 12 * (k % 2)) ≡ partNumbered (circuitAt t) k
 numbered t k = go (k % 2) refl
   where
-    side : (m : ℕ) → k % 2 ≡ m → partNo (circuitAt t) k ≡ cond (eqb m 0) (partAt t (32 * (k / 2))) (partAt t (32 * (k / 2) + 12))
+    side : (m : ℕ) → k % 2 ≡ m → partNumbered (circuitAt t) k ≡ cond (eqb m 0) (partAt t (32 * (k / 2))) (partAt t (32 * (k / 2) + 12))
     side m e = ap (λ (n : ℕ). cond (eqb n 0) (partAt t (32 * (k / 2))) (partAt t (32 * (k / 2) + 12))) e
 
-    go : (m : ℕ) → k % 2 ≡ m → partAt t (32 * (k / 2) + 12 * (k % 2)) ≡ partNo (circuitAt t) k
+    go : (m : ℕ) → k % 2 ≡ m → partAt t (32 * (k / 2) + 12 * (k % 2)) ≡ partNumbered (circuitAt t) k
     go zero e = ap (partAt t) (omega arith) ∙ sym (side zero e)
     go (suc zero) e = ap (partAt t) (omega arith) ∙ sym (side 1 e)
     go (suc (suc m)) e = absurd (omega arith)

@@ -1,40 +1,57 @@
-// Circuits in the octets of a table: read whole, stored whole. No other code knows where a circuit's fields stand.
+// Circuits in the octets of a table: read, stored, and whether they are zero. No other code knows where a circuit's fields stand.
 use rules::circuit::Circuit;
 use rules::level::Level;
 use rules::mark::Mark;
 use rules::part::Part;
 ghost use mathlib.Core.Path.{_≡_};
+ghost use mathlib.Core.Bool.{true, cond};
 ghost use Prim.Native.Nat.{_+_, _*_, _/_, _<_, _≤_};
 ghost use lib.ListN.{length};
 ghost use mathlib.Core.List.{_++_};
 ghost use Rattle.octets.specs.Number.{octets};
-ghost use Rattle.octets.specs.Span.{span, put, zeros};
-ghost use Rattle.rules.specs.Valid.{partNo};
-ghost use Rattle.rules.specs.Records.{circuits, partAt, circuitAt, partOctets, putCircuit, flagsAt, blankPart, blankAt, tableLength};
+ghost use Rattle.octets.specs.Span.{put, zeros};
+ghost use Rattle.rules.specs.Valid.{partNumbered};
+ghost use Rattle.rules.specs.Records.{circuitSize, circuits, partAt, circuitAt, holderOctets, reservationOctets, spareOctets, partOctets, putCircuit, flagsAt, blankAt, tableLength};
 
-// A table is 1 to 256 records of 32 octets.
+// The octets of a circuit.
+pub const CIRCUIT_SIZE: usize = 32;
+
+// A table has at least one circuit, and at most these.
+pub const MOST_CIRCUITS: usize = 256;
+
+// The octets of a part, a reservation's clock aside.
+const PART_SIZE: usize = 12;
+
+// Where the reservation's part stands in a circuit, then its clock, then the octets that belong to no part.
+const RESERVATION: usize = 12;
+
+const CLOCK: usize = 24;
+
+const SPARE: usize = 28;
+
+// A table of n octets is 1 to 256 whole circuits.
 pub fn right_length(n: usize) -> bool
     ensures { λ r. ⌜ r ≡ tableLength n ⌝ }
 {
-    let circuits = n / 32;
-    if n % 32 != 0 {
+    let circuits = n / CIRCUIT_SIZE;
+    if n % CIRCUIT_SIZE != 0 {
         return false;
     }
     if circuits < 1 {
         return false;
     }
-    circuits <= 256
+    circuits <= MOST_CIRCUITS
 }
 
 // How many circuits there are.
 pub fn count(t: &[u8]) -> usize
     ensures { λ r. ⌜ r ≡ circuits (now (t .entry)) ⌝ }
 {
-    t.len() / 32
+    t.len() / CIRCUIT_SIZE
 }
 
 // The part that stands from place o on.
-pub fn part_at(t: &[u8], o: usize) -> Part
+fn part_at(t: &[u8], o: usize) -> Part
     requires { ⌜ o + 12 ≤ length (now t) ⌝ }
     ensures { λ r. ⌜ r ≡ partAt (now (t .entry)) o ⌝ }
 {
@@ -51,11 +68,27 @@ pub fn part_at(t: &[u8], o: usize) -> Part
 }
 
 // Part k: 2 i is the holder's of circuit i, and 2 i + 1 its reservation's.
-pub fn part_no(t: &[u8], k: usize) -> Part
-    requires { ⌜ k < 2 * (circuits (now t)) ⌝ }
-    ensures { λ r. ⌜ r ≡ partNo (circuitAt (now (t .entry))) k ⌝ }
+pub fn part_numbered(t: &[u8], k: usize) -> Part
+    requires { ⌜ k < 2 * circuits (now t) ⌝ }
+    ensures { λ r. ⌜ r ≡ partNumbered (circuitAt (now (t .entry))) k ⌝ }
 {
-    part_at(t, 32 * (k / 2) + 12 * (k % 2))
+    part_at(t, CIRCUIT_SIZE * (k / 2) + RESERVATION * (k % 2))
+}
+
+// The holder's part of circuit i.
+pub fn holder_at(t: &[u8], i: usize) -> Part
+    requires { ⌜ i < circuits (now t) ⌝ }
+    ensures { λ r. ⌜ r ≡ circuitAt (now (t .entry)) i .holder ⌝ }
+{
+    part_at(t, CIRCUIT_SIZE * i)
+}
+
+// The reservation's part of circuit i, its clock aside.
+pub fn reservation_at(t: &[u8], i: usize) -> Part
+    requires { ⌜ i < circuits (now t) ⌝ }
+    ensures { λ r. ⌜ r ≡ circuitAt (now (t .entry)) i .reservation ⌝ }
+{
+    part_at(t, CIRCUIT_SIZE * i + RESERVATION)
 }
 
 // What stands at circuit i.
@@ -63,10 +96,9 @@ pub fn circuit_at(t: &[u8], i: usize) -> Circuit
     requires { ⌜ i < circuits (now t) ⌝ }
     ensures { λ r. ⌜ r ≡ circuitAt (now (t .entry)) i ⌝ }
 {
-    let o = 32 * i;
-    let holder = part_at(t, o);
-    let reservation = part_at(t, o + 12);
-    let clock = octets::read_four(t, o + 24);
+    let holder = holder_at(t, i);
+    let reservation = reservation_at(t, i);
+    let clock = octets::read_four(t, CIRCUIT_SIZE * i + CLOCK);
     Circuit {
         holder,
         reservation,
@@ -75,7 +107,7 @@ pub fn circuit_at(t: &[u8], i: usize) -> Circuit
 }
 
 // A part as its octets.
-fn part_octets(p: Part) -> [u8; 12]
+fn part_octets(p: Part) -> [u8; PART_SIZE]
     ensures { λ r. ⌜ r ≡ partOctets p ⌝ }
 {
     let d = p.mark.domain;
@@ -100,22 +132,22 @@ fn part_octets(p: Part) -> [u8; 12]
 // The holder's part of circuit i, written.
 pub fn store_holder(t: &mut [u8], i: usize, p: Part)
     requires { ⌜ i < circuits (now t) ⌝ }
-    ensures { λ _. ⌜ now (t .exit) ≡ put (now (t .entry)) (32 * i) (partOctets p) ⌝ }
+    ensures { λ _. ⌜ now (t .exit) ≡ put (now (t .entry)) (circuitSize * i) (partOctets p) ⌝ }
 {
     let v = part_octets(p);
-    octets::write(t, 32 * i, &v);
+    octets::write(t, CIRCUIT_SIZE * i, &v);
 }
 
 // The reservation's part of circuit i, written with its clock.
 pub fn store_reservation(t: &mut [u8], i: usize, p: Part, clock: u32)
     requires { ⌜ i < circuits (now t) ⌝ }
-    ensures { λ _. ⌜ now (t .exit) ≡ put (now (t .entry)) (32 * i + 12) (partOctets p ++ octets 4 clock) ⌝ }
+    ensures { λ _. ⌜ now (t .exit) ≡ put (now (t .entry)) (circuitSize * i + 12) (partOctets p ++ octets 4 clock) ⌝ }
 {
-    let o = 32 * i + 12;
+    let o = CIRCUIT_SIZE * i + RESERVATION;
     let v = part_octets(p);
     let s = octets::split_four(clock);
     octets::write(t, o, &v);
-    octets::write(t, o + 12, &s);
+    octets::write(t, o + PART_SIZE, &s);
 }
 
 // Circuit i, written whole.
@@ -126,7 +158,7 @@ pub fn store(t: &mut [u8], i: usize, c: Circuit)
     let z = [0u8; 4];
     store_holder(t, i, c.holder);
     store_reservation(t, i, c.reservation, c.clock);
-    octets::write(t, 32 * i + 28, &z);
+    octets::write(t, CIRCUIT_SIZE * i + SPARE, &z);
 }
 
 // Each flag of record i is 0 or 1.
@@ -134,49 +166,43 @@ pub fn flags(t: &[u8], i: usize) -> bool
     requires { ⌜ i < circuits (now t) ⌝ }
     ensures { λ r. ⌜ r ≡ flagsAt (now (t .entry)) i ⌝ }
 {
-    let o = 32 * i;
-    if t[o] <= 1 { t[o + 12] <= 1 } else { false }
-}
-
-// Twelve octets are zero, four by four.
-pub fn zero_twelve(t: &[u8], o: usize) -> bool
-    requires { ⌜ o + 12 ≤ length (now t) ⌝ }
-    ensures { λ r. ⌜ r ≡ zeros (span (now (t .entry)) o 12) ⌝ }
-{
-    if !octets::zero_four(t, o) {
-        return false;
+    let o = CIRCUIT_SIZE * i;
+    if t[o] <= 1 {
+        t[o + RESERVATION] <= 1
+    } else {
+        false
     }
-    if !octets::zero_four(t, o + 4) {
-        return false;
-    }
-    octets::zero_four(t, o + 8)
 }
 
-// Sixteen are.
-pub fn zero_sixteen(t: &[u8], o: usize) -> bool
-    requires { ⌜ o + 16 ≤ length (now t) ⌝ }
-    ensures { λ r. ⌜ r ≡ zeros (span (now (t .entry)) o 16) ⌝ }
+// Every octet of the holder's part of record i is zero.
+pub fn holder_zero(t: &[u8], i: usize) -> bool
+    requires { ⌜ i < circuits (now t) ⌝ }
+    ensures { λ r. ⌜ r ≡ zeros (holderOctets (now (t .entry)) i) ⌝ }
 {
-    if !zero_twelve(t, o) {
-        return false;
-    }
-    octets::zero_four(t, o + 12)
+    octets::zero_twelve(t, CIRCUIT_SIZE * i)
 }
 
-// The holder's part of a record is present or zero.
-fn holder_blank(t: &[u8], o: usize) -> bool
-    requires { ⌜ o + 12 ≤ length (now t) ⌝ }
-    ensures { λ r. ⌜ r ≡ blankPart (now (t .entry)) o 12 ⌝ }
+// Every octet of the reservation's part of record i, its clock's too, is zero.
+pub fn reservation_zero(t: &[u8], i: usize) -> bool
+    requires { ⌜ i < circuits (now t) ⌝ }
+    ensures { λ r. ⌜ r ≡ zeros (reservationOctets (now (t .entry)) i) ⌝ }
 {
-    if t[o] == 1 { true } else { zero_twelve(t, o) }
+    octets::zero_sixteen(t, CIRCUIT_SIZE * i + RESERVATION)
 }
 
-// The reservation's, with its clock, is.
-fn reservation_blank(t: &[u8], o: usize) -> bool
-    requires { ⌜ o + 16 ≤ length (now t) ⌝ }
-    ensures { λ r. ⌜ r ≡ blankPart (now (t .entry)) o 16 ⌝ }
+// Every octet of record i that belongs to no part is zero.
+pub fn spare_zero(t: &[u8], i: usize) -> bool
+    requires { ⌜ i < circuits (now t) ⌝ }
+    ensures { λ r. ⌜ r ≡ zeros (spareOctets (now (t .entry)) i) ⌝ }
 {
-    if t[o] == 1 { true } else { zero_sixteen(t, o) }
+    octets::zero_four(t, CIRCUIT_SIZE * i + SPARE)
+}
+
+// A part is present, or its octets are zero.
+fn present_or(p: Part, zero: bool) -> bool
+    ensures { λ r. ⌜ r ≡ cond (p .present) true zero ⌝ }
+{
+    if p.present { true } else { zero }
 }
 
 // What must be zero in record i is zero.
@@ -184,12 +210,12 @@ pub fn blank(t: &[u8], i: usize) -> bool
     requires { ⌜ i < circuits (now t) ⌝ }
     ensures { λ r. ⌜ r ≡ blankAt (now (t .entry)) i ⌝ }
 {
-    let o = 32 * i;
-    if !holder_blank(t, o) {
+    let c = circuit_at(t, i);
+    if !present_or(c.holder, holder_zero(t, i)) {
         return false;
     }
-    if !reservation_blank(t, o + 12) {
+    if !present_or(c.reservation, reservation_zero(t, i)) {
         return false;
     }
-    octets::zero_four(t, o + 28)
+    spare_zero(t, i)
 }

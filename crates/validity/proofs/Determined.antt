@@ -1,5 +1,5 @@
 -- Any two results that the contract of the check allows coincide.
-use mathlib.Core.Path.{_≡_, sym, _∙_}
+use mathlib.Core.Path.{sym, _∙_}
 use Rattle.octets.proofs.Determined.{OneResult}
 use Rattle.validity.proofs.check.Kinds as check-kinds
 use Rattle.validity.proofs.check.Reads as check

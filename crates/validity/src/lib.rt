@@ -1,7 +1,9 @@
 // The check of a table: its first fault, and the number of it. Each record is first looked at part by part, which is quick;
 // the reasons are gone through, in their order, only where that finds something.
 use rules::circuit::Circuit;
+use rules::number;
 use rules::part::Part;
+use rules::part::Reference;
 use rules::search::Found;
 use rules::verdict::Reason;
 use rules::verdict::Verdict;
@@ -9,13 +11,14 @@ ghost use mathlib.Core.Path.{_≡_};
 ghost use mathlib.Core.Bool.{_&&_};
 ghost use Prim.Native.Nat.{_+_, _/_, _<_, _≤_};
 ghost use lib.ListN.{length};
-ghost use Rattle.rules.specs.Fields.{levelOk, decimal, codeOk};
+ghost use Rattle.rules.specs.Fields.{levelOk, decimal, pointCodeOk};
 ghost use Rattle.rules.specs.Valid.{ifPresent, levelsOk, fieldsOk, pairOk, isValid, verdictNumber, recordVerdict, recordsTo, partsTo};
 ghost use Rattle.rules.specs.Valid as rule;
-ghost use Rattle.rules.specs.Records.{circuits, circuitAt, flagsAt, records, checkNumber};
+ghost use Rattle.rules.specs.Records.{circuitAt, circuits, flagsAt, records, checkNumber, holderOctets, reservationOctets};
 ghost use Rattle.validity.specs.Order.{partInOrder, inOrder};
 ghost use Rattle.validity.specs.Order as order;
 
+// A part is absent, or its level is one of the five.
 fn level_ok(p: Part) -> bool
     ensures { λ r. ⌜ r ≡ ifPresent p (levelOk (p .mark .level .0)) ⌝ }
 {
@@ -26,6 +29,7 @@ fn level_ok(p: Part) -> bool
     }
 }
 
+// The level of each part that is present is one of the five.
 fn levels_ok(c: Circuit) -> bool
     ensures { λ r. ⌜ r ≡ levelsOk c ⌝ }
 {
@@ -37,14 +41,15 @@ fn levels_ok(c: Circuit) -> bool
 }
 
 // The two top bits of a reference's last octet are spare.
-fn code_ok(reference: [u8; 5]) -> bool
-    ensures { λ r. ⌜ r ≡ codeOk reference ⌝ }
+fn point_code_ok(reference: Reference) -> bool
+    ensures { λ r. ⌜ r ≡ pointCodeOk reference ⌝ }
 {
     reference[4] < 64
 }
 
+// A part is absent, or its digits and the spare bits of its reference are right.
 fn part_ok(p: Part) -> bool
-    ensures { λ r. ⌜ r ≡ ifPresent p (decimal (p .mark .domain) && codeOk (p .reference)) ⌝ }
+    ensures { λ r. ⌜ r ≡ ifPresent p (decimal (p .mark .domain) && pointCodeOk (p .reference)) ⌝ }
 {
     let domain = p.mark.domain;
     let reference = p.reference;
@@ -54,11 +59,12 @@ fn part_ok(p: Part) -> bool
     if !rules::parameter::decimal(domain) {
         return false;
     }
-    code_ok(reference)
+    point_code_ok(reference)
 }
 
+// The digits and the spare bits of each part that is present are right.
 fn fields_ok(c: Circuit) -> bool
-    ensures { λ r. ⌜ r ≡ fieldsOk codeOk c ⌝ }
+    ensures { λ r. ⌜ r ≡ fieldsOk pointCodeOk c ⌝ }
 {
     if part_ok(c.holder) {
         part_ok(c.reservation)
@@ -80,6 +86,7 @@ fn pair_ok(c: Circuit) -> bool
     c.reservation.mark.outranks(c.holder.mark)
 }
 
+// The flags of record i are 0 or 1, and the levels of c are known.
 fn flags_and_levels(t: &[u8], i: usize, c: Circuit) -> bool
     requires { ⌜ i < circuits (now t) ⌝ }
     ensures { λ r. ⌜ r ≡ flagsAt (now (t .entry)) i && levelsOk c ⌝ }
@@ -124,52 +131,53 @@ fn fit(p: Part) -> bool
     if !rules::parameter::decimal(domain) {
         return false;
     }
-    code_ok(reference)
+    point_code_ok(reference)
 }
 
-fn holder_in_order(t: &[u8], o: usize) -> bool
-    requires { ⌜ o + 12 ≤ length (now t) ⌝ }
-    ensures { λ r. ⌜ r ≡ partInOrder (now (t .entry)) o 12 ⌝ }
+// The holder's part of record i is present and fit, or zero.
+fn holder_in_order(t: &[u8], i: usize) -> bool
+    requires { ⌜ i < circuits (now t) ⌝ }
+    ensures { λ r. ⌜ r ≡ partInOrder (circuitAt (now (t .entry)) i .holder) (holderOctets (now (t .entry)) i) ⌝ }
 {
-    let p = table::part_at(t, o);
+    let p = table::holder_at(t, i);
     if p.present {
         fit(p)
     } else {
-        table::zero_twelve(t, o)
+        table::holder_zero(t, i)
     }
 }
 
-fn reservation_in_order(t: &[u8], o: usize) -> bool
-    requires { ⌜ o + 16 ≤ length (now t) ⌝ }
-    ensures { λ r. ⌜ r ≡ partInOrder (now (t .entry)) o 16 ⌝ }
+// The reservation's part of record i is present and fit, or zero.
+fn reservation_in_order(t: &[u8], i: usize) -> bool
+    requires { ⌜ i < circuits (now t) ⌝ }
+    ensures { λ r. ⌜ r ≡ partInOrder (circuitAt (now (t .entry)) i .reservation) (reservationOctets (now (t .entry)) i) ⌝ }
 {
-    let p = table::part_at(t, o);
+    let p = table::reservation_at(t, i);
     if p.present {
         fit(p)
     } else {
-        table::zero_sixteen(t, o)
+        table::reservation_zero(t, i)
     }
 }
 
-// Nothing is wrong with record i.
+// Record i is in order: no reason applies to it.
 fn in_order(t: &[u8], i: usize) -> bool
     requires { ⌜ i < circuits (now t) ⌝ }
     ensures { λ r. ⌜ r ≡ inOrder (now (t .entry)) i ⌝ }
 {
-    let o = 32 * i;
-    if !holder_in_order(t, o) {
+    if !holder_in_order(t, i) {
         return false;
     }
-    if !reservation_in_order(t, o + 12) {
+    if !reservation_in_order(t, i) {
         return false;
     }
-    if !octets::zero_four(t, o + 28) {
+    if !table::spare_zero(t, i) {
         return false;
     }
     pair_ok(table::circuit_at(t, i))
 }
 
-// The same verdict, given at once of a record in order.
+// The verdict on record i, given at once where the record is in order.
 fn judge(t: &[u8], i: usize) -> Verdict
     requires { ⌜ i < circuits (now t) ⌝ }
     ensures { λ r. ⌜ r ≡ recordVerdict records (now (t .entry)) i ⌝ }
@@ -181,6 +189,7 @@ fn judge(t: &[u8], i: usize) -> Verdict
     }
 }
 
+// A verdict is no fault.
 fn is_valid(v: Verdict) -> bool
     ensures { λ r. ⌜ r ≡ isValid v ⌝ }
 {
@@ -224,19 +233,20 @@ pub fn verdict(t: &[u8]) -> Verdict
     if is_valid(v) { each_reference(t) } else { v }
 }
 
-// Whether there is none.
+// Whether the table has no fault.
 pub fn valid(t: &[u8]) -> bool
     ensures { λ r. ⌜ r ≡ rule.valid records (now (t .entry)) ⌝ }
 {
     is_valid(verdict(t))
 }
 
+// The number that the check gives back for a verdict.
 fn number(v: Verdict) -> u8
     ensures { λ r. ⌜ r ≡ verdictNumber v ⌝ }
 {
     match v {
-        Verdict::Valid => 0,
-        Verdict::Fault(_, _) => 21,
+        Verdict::Valid => number::DONE,
+        Verdict::Fault(_, _) => number::TABLE_NOT_VALID,
     }
 }
 
@@ -245,7 +255,7 @@ pub fn check(t: &[u8]) -> u8
     ensures { λ r. ⌜ r ≡ checkNumber (now (t .entry)) ⌝ }
 {
     if !table::right_length(t.len()) {
-        return 20;
+        return number::WRONG_LENGTH;
     }
     number(verdict(t))
 }

@@ -3,6 +3,7 @@ use mathlib.Core.Path.{sym, ap, _∙_}
 use Rattle.rules.specs.declared.part.Part.{Part}
 use Rattle.rules.specs.declared.outcome.Act.{Act}
 use Rattle.rules.specs.declared.outcome.Outcome.the-variants.{Do}
+use Rattle.rules.specs.Numbers.{seized, seizedWithLoss, reserved, reservedWithLoss}
 use Rattle.rules.specs.Answer.{losers, answerOf}
 use borrow.Author.Needs.{needs}
 use Rattle.answer.proofs.acted.Statement.{statement}
@@ -12,13 +13,13 @@ returns : tie.Need-returns
 unfolding answerOf
 returns c =
     let a = c .before .before .before .before .before .args in
-    c .losers .ensures ∙ ap (losers 1 2 (a .i) (a .c .holder)) (c .before .another .ensures) ∙ ap (λ (k : Act). answerOf (λ _. a .c) 0 (a .e) (Do k (a .i))) (sym (c .before .before .enum-told .given .1))
+    c .losers .ensures ∙ ap (losers seized seizedWithLoss (a .i) (a .c .holder)) (c .before .another .ensures) ∙ ap (λ (k : Act). answerOf (λ _. a .c) 0 (a .e) (Do k (a .i))) (sym (c .before .before .enum-told .given .1))
 
 returns-2 : tie.Need-returns-2
 unfolding answerOf
 returns-2 c =
     let a = c .before .before .before .before .before .args in
-    c .losers2 .ensures ∙ ap (λ (p : Part). losers 3 4 (a .i) p (a .c .reservation)) (c .before .nobody .ensures) ∙ ap (λ (k : Act). answerOf (λ _. a .c) 0 (a .e) (Do k (a .i))) (sym (c .before .before .enum-told2 .given .1))
+    c .losers2 .ensures ∙ ap (λ (p : Part). losers reserved reservedWithLoss (a .i) p (a .c .reservation)) (c .before .nobody .ensures) ∙ ap (λ (k : Act). answerOf (λ _. a .c) 0 (a .e) (Do k (a .i))) (sym (c .before .before .enum-told2 .given .1))
 
 returns-3 : tie.Need-returns-3
 unfolding answerOf

@@ -1,16 +1,15 @@
 -- One more circuit, counted if its reservation is overdue.
-use Prim.Native.Nat.{ℕ, _+_, _-_, _/_, _≤_}
+use Prim.Native.Nat.{ℕ, _+_, _-_, _≤_}
 use mathlib.Core.Path.{_≡_, refl, sym, ap, ap₂, _∙_}
 use mathlib.Core.Bool.{Bool, cond}
 use mathlib.Core.List.{List}
-use lib.ListN.{length}
 use denote.Ref.{now}
 use native.Mathlib.Numerals.{add-one}
 use native.Mathlib.Omega.{arith}
 use borrow.Author.Needs.{needs}
 use Rattle.rules.specs.Search.{countTo}
 use Rattle.rules.specs.Circuit.{overdue}
-use Rattle.rules.specs.Records.{circuitAt}
+use Rattle.rules.specs.Records.{circuitAt, circuits}
 use Rattle.rules.proofs.Searches.{count-le}
 use Rattle.answer.proofs.removed.Statement.{statement}
 use Rattle.answer.proofs.removed.Tie as tie
@@ -40,7 +39,7 @@ returns : tie.Need-returns Inv-loop μ-loop
 returns c =
     let l = c .before .loop in
     let a = c .before .before .before .before .args in
-    let done : l .i ≡ length (now (a .t)) / 32 = let n = c .before .before .count .ensures in omega arith in
+    let done : l .i ≡ circuits (now (a .t)) = let n = c .before .before .count .ensures in omega arith in
     l .inv .1 ∙ ap (countTo (due (now (a .t)) (a .clock))) done
 
 pub removed-spec : {M : Type 1} → statement M

@@ -1,6 +1,6 @@
 -- The loop returns at the first free circuit, and carries the best of those that it passed.
 use Prim.Native.Nat.{_≤_, _-_}
-use mathlib.Core.Path.{_≡_, refl, ap, _∙_}
+use mathlib.Core.Path.{_≡_, refl, ap}
 use denote.Ref.{now}
 use native.Mathlib.Omega.{arith}
 use borrow.Author.Count.{below-none}

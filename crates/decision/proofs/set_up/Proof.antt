@@ -14,7 +14,7 @@ returns c =
 returns-2 : tie.Need-returns-2
 unfolding setUp
 returns-2 c =
-    c .unheld .ensures ∙ none _ _ (c .before .enum-told2 .given .1) (c .before .before .before .held-by .ensures)
+    c .set-up-unheld .ensures ∙ none _ _ (c .before .enum-told2 .given .1) (c .before .before .before .held-by .ensures)
 
 pub set-up-spec : {M : Type 1} → statement M
 set-up-spec =

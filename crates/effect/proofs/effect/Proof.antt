@@ -1,7 +1,5 @@
 -- By what was decided.
-use Prim.Native.Nat.{_/_}
 use mathlib.Core.Path.{sym, ap, subst, _∙_}
-use lib.ListN.{length}
 use denote.Ref.{now}
 use Rattle.rules.specs.Run.{effect}
 use Rattle.rules.specs.Records.{records}

@@ -1,6 +1,5 @@
 -- Whether it is overdue.
-use mathlib.Core.Path.{sym, ap, _∙_}
-use denote.Ref.{now}
+use mathlib.Core.Path.{ap, _∙_}
 use Rattle.octets.proofs.Tests.{ways}
 use Rattle.rules.specs.Circuit.{overdue}
 use borrow.Author.Needs.{needs}

@@ -1,12 +1,12 @@
 -- The loop is the sweep of the circuits that it has passed.
-use Prim.Native.Nat.{_-_, _/_, _≤_}
-use mathlib.Core.Path.{_≡_, refl, sym, ap, _∙_}
+use Prim.Native.Nat.{_-_, _≤_}
+use mathlib.Core.Path.{_≡_, refl, ap, _∙_}
 use lib.ListN.{length}
 use denote.Ref.{now}
 use native.Mathlib.Omega.{arith}
 use borrow.Author.Needs.{needs}
 use Rattle.rules.specs.Run.{sweepTo}
-use Rattle.rules.specs.Records.{records}
+use Rattle.rules.specs.Records.{records, circuits}
 use Rattle.effect.proofs.Swept.{swept-on}
 use Rattle.effect.proofs.sweep.Statement.{statement}
 use Rattle.effect.proofs.sweep.Tie as tie
@@ -27,7 +27,7 @@ returns : tie.Need-returns Inv-loop μ-loop
 returns c =
     let l = c .before .loop in
     let a = c .before .before .before .before .before .args in
-    let done : l .i ≡ length (now (a .t)) / 32 = let n = c .before .before .count .ensures in omega arith in
+    let done : l .i ≡ circuits (now (a .t)) = let n = c .before .before .count .ensures in omega arith in
     l .inv .1 ∙ ap (sweepTo records (now (a .t)) (a .e)) done
 
 pub sweep-spec : {M : Type 1} → statement M

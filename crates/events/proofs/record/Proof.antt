@@ -1,5 +1,5 @@
 -- Field by field.
-use mathlib.Core.List.{List, _∷_, _++_}
+use mathlib.Core.List.{_∷_, _++_}
 use Rattle.octets.specs.Span.{span}
 use borrow.Author.Needs.{needs}
 use Rattle.events.proofs.record.Statement.{statement}

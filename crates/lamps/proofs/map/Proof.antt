@@ -1,9 +1,7 @@
 -- What the check says, and where it says nothing the lamps.
-use mathlib.Core.Path.{_≡_, sym, ap, _∙_}
-use denote.Ref.{now}
+use mathlib.Core.Path.{sym, ap, _∙_}
 use borrow.Author.Needs.{needs}
 use Rattle.octets.proofs.Tests.{if-eq, if-ne}
-use Rattle.rules.specs.Records.{checkNumber}
 use Rattle.lamps.specs.Lamps.{darkMap, lampMap}
 use Rattle.lamps.proofs.Checked.{checked-length}
 use Rattle.lamps.proofs.map.Statement.{statement}

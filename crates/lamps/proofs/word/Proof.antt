@@ -1,13 +1,12 @@
 -- The loop has built the lamps from i on.
-use Prim.Native.Nat.{ℕ, _+_, _-_, _*_, _/_, _≤_, min}
+use Prim.Native.Nat.{ℕ, _+_, _-_, _*_, _≤_, min}
 use mathlib.Core.Path.{_≡_, sym, ap, ap₂, _∙_}
 use mathlib.Core.Bool.{Bool, cond}
 use native.Mathlib.Omega.{arith}
-use lib.ListN.{length}
 use denote.Ref.{now}
 use borrow.Author.Needs.{needs}
 use Rattle.rules.specs.Circuit.{free}
-use Rattle.rules.specs.Records.{circuitAt}
+use Rattle.rules.specs.Records.{circuitAt, circuits}
 use Rattle.lamps.specs.Lamps.{litAt, wordFrom}
 use Rattle.lamps.proofs.Words.{word-more, word-room}
 use Rattle.lamps.proofs.Lit.{lit-below, lit-above}
@@ -15,7 +14,7 @@ use Rattle.lamps.proofs.word.Statement.{statement}
 use Rattle.lamps.proofs.word.Tie as tie
 
 abbrev Inv-loop : tie.InvT-loop
-Inv-loop t j base w₀ i₀ w i = (i ≤ 64) × (i ≤ length t / 32 - base) × (w ≡ wordFrom (litAt t) (base + i) (64 - i))
+Inv-loop t j base w₀ i₀ w i = (i ≤ 64) × (i ≤ circuits t - base) × (w ≡ wordFrom (litAt t) (base + i) (64 - i))
 
 abbrev μ-loop : tie.MeasureT-loop
 μ-loop t j base w₀ i₀ w i = i
@@ -23,7 +22,7 @@ abbrev μ-loop : tie.MeasureT-loop
 loop-holds : tie.Need-loop-holds Inv-loop μ-loop
 loop-holds c =
     let a = c .before .before .before .args in
-    let n = length (now (a .t)) / 32 in
+    let n = circuits (now (a .t)) in
     let here : c .within .result ≡ min (n - 64 * a .j) 64 = c .within .ensures ∙ ap (λ (m : ℕ). min (m - 64 * a .j) 64) (c .before .count .ensures) in
     (omega arith, omega arith, lit-above (circuitAt (now (a .t))) n (64 * a .j) (c .within .result) here)
 
@@ -39,7 +38,7 @@ loop-again c =
     let a = c .before .before .before .before .before .before .before .before .args in
     let t = now (a .t) in
     let at = 64 * a .j + (l .i - 1) in
-    let on : c .before .free .result ≡ litAt t at = c .before .free .ensures ∙ ap free (c .before .before .circuit-at .ensures) ∙ sym (lit-below (circuitAt t) (length t / 32) at (omega arith)) in
+    let on : c .before .free .result ≡ litAt t at = c .before .free .ensures ∙ ap free (c .before .before .circuit-at .ensures) ∙ sym (lit-below (circuitAt t) (circuits t) at (omega arith)) in
     let lamp = c .digit .ensures .0 ∙ ap (λ (b : Bool). cond b 1 0) on in
     (omega arith, omega arith, ap (λ (d : ℕ). 2 * l .w + d) lamp ∙ word-more (litAt t) (64 * a .j) (l .i) (omega arith) (omega arith) (l .inv .2))
 

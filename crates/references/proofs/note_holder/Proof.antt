@@ -16,7 +16,7 @@ noted c =
     let part = c .before .before .before in
     let start = part .before .before in
     let a = start .args in
-    seen-more (circuitAt (now (a .t))) (2 * a .i) (now (a .w)) (start .pre .1) _ (part .part-no .ensures) _ (c .may-repeat .ensures .1)
+    seen-more (circuitAt (now (a .t))) (2 * a .i) (now (a .w)) (start .pre .1) _ (part .part-numbered .ensures) _ (c .may-repeat .ensures .1)
 
 new : tie.Need-returns
 new c =
@@ -24,7 +24,7 @@ new c =
     let start = part .before .before in
     let a = start .args in (
       sym
-          (new-part (circuitAt (now (a .t))) (2 * a .i) (now (a .w)) (start .pre .1) _ (part .part-no .ensures) (sym (c .before .may-repeat .ensures .0) ∙ not-true _ (c .if1 .taken))),
+          (new-part (circuitAt (now (a .t))) (2 * a .i) (now (a .w)) (start .pre .1) _ (part .part-numbered .ensures) (sym (c .before .may-repeat .ensures .0) ∙ not-true _ (c .if1 .taken))),
       noted (c .before),
     )
 
@@ -34,7 +34,7 @@ searched c =
     let start = part .before .before in
     let a = start .args in (
       c .stands-below .ensures
-          ∙ by-search (circuitAt (now (a .t))) (2 * a .i) (now (a .w)) (start .pre .1) _ (part .part-no .ensures) (sym (c .before .before .may-repeat .ensures .0) ∙ not-false _ (c .before .if1 .left)),
+          ∙ by-search (circuitAt (now (a .t))) (2 * a .i) (now (a .w)) (start .pre .1) _ (part .part-numbered .ensures) (sym (c .before .before .may-repeat .ensures .0) ∙ not-false _ (c .before .if1 .left)),
       noted (c .before .before),
     )
 

@@ -18,7 +18,7 @@ noted c =
     let part = c .before .before .before in
     let start = part .before .before .before in
     let a = start .args in
-    seen-more (circuitAt (now (a .t))) (2 * a .i + 1) (now (a .w)) (start .pre .1) _ (part .part-no2 .ensures) _ (c .may-repeat .ensures .1)
+    seen-more (circuitAt (now (a .t))) (2 * a .i + 1) (now (a .w)) (start .pre .1) _ (part .part-numbered2 .ensures) _ (c .may-repeat .ensures .1)
 
 new : tie.Need-returns
 new c =
@@ -26,25 +26,25 @@ new c =
     let start = part .before .before .before in
     let a = start .args in (
       sym
-          (new-part (circuitAt (now (a .t))) (2 * a .i + 1) (now (a .w)) (start .pre .1) _ (part .part-no2 .ensures) (sym (c .before .may-repeat .ensures .0) ∙ not-true _ (c .if1 .taken))),
+          (new-part (circuitAt (now (a .t))) (2 * a .i + 1) (now (a .w)) (start .pre .1) _ (part .part-numbered2 .ensures) (sym (c .before .may-repeat .ensures .0) ∙ not-true _ (c .if1 .taken))),
       noted (c .before),
     )
 
 -- past the filter the search decides
-past : (c : tie.Else1) → let part = c .before .before .before .before in let a = part .before .before .before .args in let x = circuitAt (now (a .t)) in standsTo x (part .part-no2 .result .reference) (2 * a .i + 1) ≡ repeated x (2 * a .i + 1)
+past : (c : tie.Else1) → let part = c .before .before .before .before in let a = part .before .before .before .args in let x = circuitAt (now (a .t)) in standsTo x (part .part-numbered2 .result .reference) (2 * a .i + 1) ≡ repeated x (2 * a .i + 1)
 past c =
     let part = c .before .before .before .before in
     let start = part .before .before .before in
     let a = start .args in
-    by-search (circuitAt (now (a .t))) (2 * a .i + 1) (now (a .w)) (start .pre .1) _ (part .part-no2 .ensures) (sym (c .before .may-repeat .ensures .0) ∙ not-false _ (c .if1 .left))
+    by-search (circuitAt (now (a .t))) (2 * a .i + 1) (now (a .w)) (start .pre .1) _ (part .part-numbered2 .ensures) (sym (c .before .may-repeat .ensures .0) ∙ not-false _ (c .if1 .left))
 
 both : tie.Need-returns-2
 both c =
     let part = c .before .before .before .before .before .before in
     let a = part .before .before .before .args in
-    let r = part .part-no2 .result .reference in (
+    let r = part .part-numbered2 .result .reference in (
       sym
-          (stands-at (circuitAt (now (a .t))) r (2 * a .i + 1) (2 * a .i) (omega arith) (ap (isOf r) (sym (part .before .part-no .ensures)) ∙ sym (c .before .is-of .ensures) ∙ c .if2 .taken))
+          (stands-at (circuitAt (now (a .t))) r (2 * a .i + 1) (2 * a .i) (omega arith) (ap (isOf r) (sym (part .before .part-numbered .ensures)) ∙ sym (c .before .is-of .ensures) ∙ c .if2 .taken))
           ∙ past (c .before .before),
       noted (c .before .before .before),
     )
@@ -53,9 +53,9 @@ searched : tie.Need-returns-3
 searched c =
     let part = c .before .before .before .before .before .before .before in
     let a = part .before .before .before .args in
-    let r = part .part-no2 .result .reference in (
+    let r = part .part-numbered2 .result .reference in (
       c .stands-below .ensures
-          ∙ stands-past (circuitAt (now (a .t))) r (2 * a .i) (ap (isOf r) (sym (part .before .part-no .ensures)) ∙ sym (c .before .before .is-of .ensures) ∙ c .before .if2 .left)
+          ∙ stands-past (circuitAt (now (a .t))) r (2 * a .i) (ap (isOf r) (sym (part .before .part-numbered .ensures)) ∙ sym (c .before .before .is-of .ensures) ∙ c .before .if2 .left)
           ∙ past (c .before .before .before),
       noted (c .before .before .before .before),
     )

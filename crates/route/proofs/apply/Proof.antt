@@ -1,26 +1,27 @@
 -- Read, decided, answered, done, written.
+use Prim.Native.Nat.{_*_}
 use mathlib.Core.Path.{ap}
 use denote.Ref.{now}
-use Rattle.octets.specs.Span.{span}
 use Rattle.rules.specs.declared.answer.Answer.{Answer}
 use Rattle.route.proofs.Applied.{applied-answer, applied-table, applied-octets}
 use borrow.Author.Needs.{needs}
 use Rattle.route.proofs.apply.Statement.{statement}
+use Rattle.rules.specs.Records.{answerSize, eventIn}
 use Rattle.route.proofs.apply.Tie as tie
 
 returns : tie.Need-returns
 returns c =
     let done = c .before .before .before .before .before .before in
-    let told = done .before .before in
-    let decided = told .before .before in
+    let answered = done .before .before in
+    let decided = answered .before .before in
     let read = decided .before .before in
     let a = read .before .before .before .before .args in
     let t = now (a .t) in
-    let o = span (now (a .es)) (a .o) 16 in (
-      ap (λ (r : Answer). r .number) (applied-answer t o (read .read .ensures) (decided .decide .ensures .0) (told .answer .ensures)),
+    let o = eventIn (now (a .es)) (a .k) in (
+      ap (λ (r : Answer). r .number) (applied-answer t o (read .read .ensures) (decided .outcome-of .ensures .0) (answered .answered .ensures)),
       (
-        applied-table t o (read .read .ensures) (decided .decide .ensures .0) (done .effect .ensures),
-        applied-octets t o (read .read .ensures) (decided .decide .ensures .0) (told .answer .ensures) (now (a .answers)) (a .o) (c .before .before .write .ensures),
+        applied-table t o (read .read .ensures) (decided .outcome-of .ensures .0) (done .effect .ensures),
+        applied-octets t o (read .read .ensures) (decided .outcome-of .ensures .0) (answered .answered .ensures) (now (a .answers)) (answerSize * a .k) (c .before .before .write .ensures),
       ),
     )
 

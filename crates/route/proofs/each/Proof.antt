@@ -1,5 +1,5 @@
 -- The table and the answers after k events are what the first k events make of them.
-use Prim.Native.Nat.{_*_, _-_, _/_, _≤_}
+use Prim.Native.Nat.{_*_, _-_, _≤_}
 use mathlib.Core.Path.{_≡_, refl, sym, ap, ap₂, _∙_}
 use mathlib.Core.List.{List}
 use lib.ListN.{length}
@@ -8,31 +8,28 @@ use native.Mathlib.Omega.{arith}
 use borrow.Author.Needs.{needs}
 use Rattle.octets.specs.Span.{span, put}
 use Rattle.rules.specs.Valid.{valid}
-use Rattle.rules.specs.Run.{after, answer}
-use Rattle.rules.specs.Records.{records}
+use Rattle.rules.specs.Run.{after, answerRecord}
+use Rattle.rules.specs.Records.{records, answerSize, eventIn}
 use Rattle.rules.proofs.Records.{lawful}
 use Rattle.rules.proofs.Kept.{run-valid}
 use Rattle.route.specs.Entries.{eventsTo}
-use Rattle.route.proofs.Listed.{ran, told, ran-more, none-told, told-more}
+use Rattle.route.proofs.Listed.{ran, given, ran-more, none-answered, answers-more}
 use Rattle.route.proofs.each.Statement.{statement}
 use Rattle.route.proofs.each.Tie as tie
 
 abbrev Inv-loop : tie.InvT-loop
-Inv-loop t₀ es places₀ n good k₀ t places k = (k ≤ n) × (t ≡ ran t₀ es k) × (places ≡ put places₀ 0 (told t₀ es k)) × (length t ≡ length t₀) × (length places ≡ length places₀)
+Inv-loop t₀ es places₀ n intact k₀ t places k = (k ≤ n) × (t ≡ ran t₀ es k) × (places ≡ put places₀ 0 (given t₀ es k)) × (length t ≡ length t₀) × (length places ≡ length places₀)
 
 abbrev μ-loop : tie.MeasureT-loop
-μ-loop t₀ es places₀ n good k₀ t places k = n - k
+μ-loop t₀ es places₀ n intact k₀ t places k = n - k
 
 apply-requires : tie.Need-apply-requires Inv-loop μ-loop
 apply-requires c κs =
     let l = c .before .before .before .loop in
     let start = c .before .before .before .before .before .before .before in
-    let a = start .args in (
-      omega arith,
-      omega arith,
-      omega arith,
-      start .pre .3 ∙ sym (run-valid records lawful (eventsTo (now (a .es)) (l .k)) (now (a .t))) ∙ ap (valid records) (sym (l .inv .1)),
-    )
+    let a = start .args in
+    let valid-still = start .pre .1 .1 .1 ∙ sym (run-valid records lawful (eventsTo (now (a .es)) (l .k)) (now (a .t))) ∙ ap (valid records) (sym (l .inv .1)) in
+    (omega arith, (omega arith, (omega arith, valid-still)))
 
 loop-again : tie.Need-loop-again Inv-loop μ-loop
 loop-again c =
@@ -41,11 +38,11 @@ loop-again c =
     let a = apply .before .before .before .before .before .before .before .before .args in
     let t = now (a .t) in
     let es = now (a .es) in
-    let event = span es (16 * l .k) 16 in (
+    let event = eventIn es (l .k) in (
       omega arith,
       apply .apply .ensures .1 .0 ∙ ap (λ (u : List _). after records u event) (l .inv .1) ∙ ran-more t es (l .k),
-      apply .apply .ensures .1 .1 ∙ ap₂ (λ (u p : List _). put p (16 * l .k) (answer records u event)) (l .inv .1) (l .inv .2)
-          ∙ told-more t es (now (a .places)) (l .k),
+      apply .apply .ensures .1 .1 ∙ ap₂ (λ (u p : List _). put p (answerSize * l .k) (answerRecord records u event)) (l .inv .1) (l .inv .2)
+          ∙ answers-more t es (now (a .places)) (l .k),
       search needs,
       search needs,
     )
@@ -55,7 +52,7 @@ returns c =
     let l = c .before .loop in
     let a = c .before .before .before .before .before .args in
     let done : l .k ≡ a .n = omega arith in
-    (l .inv .1 ∙ ap (ran (now (a .t)) (now (a .es))) done, l .inv .2 ∙ ap (λ k. put (now (a .places)) 0 (told (now (a .t)) (now (a .es)) k)) done)
+    (l .inv .1 ∙ ap (ran (now (a .t)) (now (a .es))) done, l .inv .2 ∙ ap (λ k. put (now (a .places)) 0 (given (now (a .t)) (now (a .es)) k)) done)
 
 pub each-spec : {M : Type 1} → statement M
 each-spec =
@@ -63,8 +60,7 @@ each-spec =
     (tie.spec
     Inv-loop
     μ-loop
-    (λ c. let a = c .before .before .before .args in (omega arith, refl, none-told (now (a .t)) (now (a .es)) (now (a .places)), refl, refl))
-    (λ c. search needs)
+    (λ c. let a = c .before .before .before .args in (omega arith, refl, none-answered (now (a .t)) (now (a .es)) (now (a .places)), refl, refl))
     apply-requires
     (λ c. search needs)
     (λ c. search needs)

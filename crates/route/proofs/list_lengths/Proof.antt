@@ -1,6 +1,7 @@
 -- The table's, then the events', then the answers'.
 use Rattle.octets.proofs.Tests.{both}
 use Rattle.rules.specs.Records.{listLength}
+use native.Mathlib.Omega.{arith}
 use borrow.Author.Needs.{needs}
 use Rattle.route.proofs.list_lengths.Statement.{statement}
 use Rattle.route.proofs.list_lengths.Tie as tie
@@ -33,4 +34,5 @@ list-lengths-spec =
     returns
     returns-2
     returns-3
+    (λ c. omega arith)
     returns-4)

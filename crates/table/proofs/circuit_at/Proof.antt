@@ -7,10 +7,9 @@ pub circuit-at-spec : {M : Type 1} → statement M
 circuit-at-spec =
     tie.close
     (tie.spec
-    (λ c. search needs)
+    (λ c κs. search needs)
     (λ c κs. search needs)
     (λ c. search needs)
-    (λ c κs. search needs)
     (λ c. search needs)
     (λ c κs. search needs)
-    (λ c. λ i. record { holder = c .before .before .part-at .ensures i; reservation = c .before .part-at2 .ensures i; clock = c .read-four .ensures i }))
+    (λ c. λ i. record { holder = c .before .before .holder-at .ensures i; reservation = c .before .reservation-at .ensures i; clock = c .read-four .ensures i }))

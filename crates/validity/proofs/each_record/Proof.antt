@@ -1,23 +1,20 @@
 -- The loop has passed no fault.
-use Prim.Native.Nat.{ℕ, _/_, _≤_, _-_}
+use Prim.Native.Nat.{_≤_, _-_}
 use mathlib.Core.Path.{_≡_, refl, sym, ap, _∙_}
-use mathlib.Core.List.{List}
 use native.Mathlib.Omega.{arith}
 use native.Mathlib.Numerals.{add-one}
-use lib.ListN.{length}
 use denote.Ref.{now}
 use borrow.Author.Needs.{needs}
 use borrow.Author.Tests.{not-true, not-false}
-use Rattle.rules.specs.declared.verdict.Verdict.{Verdict}
 use Rattle.rules.specs.declared.verdict.Verdict.the-variants.{Valid}
 use Rattle.rules.specs.Valid.{isValid, recordsTo}
-use Rattle.rules.specs.Records.{records}
+use Rattle.rules.specs.Records.{records, circuits}
 use Rattle.validity.proofs.Faults.{no-fault, records-more, first-fault}
 use Rattle.validity.proofs.each_record.Statement.{statement}
 use Rattle.validity.proofs.each_record.Tie as tie
 
 abbrev Inv-loop : tie.InvT-loop
-Inv-loop t n i₀ i = (i ≤ n) × (recordsTo records t i ≡ Valid) × (n ≡ length t / 32)
+Inv-loop t n i₀ i = (i ≤ n) × (recordsTo records t i ≡ Valid) × (n ≡ circuits t)
 
 abbrev μ-loop : tie.MeasureT-loop
 μ-loop t n i₀ i = n - i
@@ -28,7 +25,7 @@ faulty c =
     let t = now (four .before .before .before .args .t) in
     let v = c .before .before .judge .ensures in
     v
-    ∙ sym (first-fault records t (length t / 32) (four .loop .i) (omega arith) (four .loop .inv .1) (ap isValid (sym v) ∙ sym (c .before .is-valid .ensures) ∙ not-true _ (c .if1 .taken)))
+    ∙ sym (first-fault records t (circuits t) (four .loop .i) (omega arith) (four .loop .inv .1) (ap isValid (sym v) ∙ sym (c .before .is-valid .ensures) ∙ not-true _ (c .if1 .taken)))
 
 again : tie.Need-loop-again Inv-loop μ-loop
 again c =
@@ -43,7 +40,7 @@ again c =
 none : tie.Need-returns-2 Inv-loop μ-loop
 none c =
     let t = now (c .before .before .before .before .args .t) in
-    let done : c .before .loop .i ≡ length t / 32 = omega arith in
+    let done : c .before .loop .i ≡ circuits t = omega arith in
     sym (ap (recordsTo records t) (sym done) ∙ c .before .loop .inv .1)
 
 pub each-record-spec : {M : Type 1} → statement M

@@ -27,13 +27,10 @@ pub in-order-spec : {M : Type 1} → statement M
 in-order-spec =
     tie.close
     (tie.spec
-    (λ c. search needs)
     (λ c κs. search needs)
     returns
-    (λ c. search needs)
     (λ c κs. search needs)
     returns-2
-    (λ c. search needs)
     (λ c κs. search needs)
     returns-3
     (λ c κs. search needs)

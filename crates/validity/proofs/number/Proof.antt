@@ -1,5 +1,4 @@
 -- By the verdict.
-use mathlib.Core.Path.{refl}
 use borrow.Author.Needs.{needs}
 use Rattle.validity.proofs.number.Statement.{statement}
 use Rattle.validity.proofs.number.Tie as tie

@@ -1,6 +1,6 @@
 -- The reasons in their order.
 use mathlib.Core.Path.{_≡_, refl, ap, _∙_}
-use mathlib.Core.Bool.{Bool, cond, _&&_, not}
+use mathlib.Core.Bool.{cond, _&&_, not}
 use denote.Ref.{now}
 use borrow.Author.Needs.{needs}
 use borrow.Author.Tests.{not-true, not-false}
@@ -9,7 +9,7 @@ use Rattle.rules.specs.declared.circuit.Circuit.{Circuit}
 use Rattle.rules.specs.declared.verdict.Reason.the-variants.{NotAbove}
 use Rattle.rules.specs.declared.verdict.Verdict.{Verdict}
 use Rattle.rules.specs.declared.verdict.Verdict.the-variants.{Valid, Fault}
-use Rattle.rules.specs.Fields.{codeOk}
+use Rattle.rules.specs.Fields.{pointCodeOk}
 use Rattle.rules.specs.Valid.{levelsOk, fieldsOk, pairOk, recordVerdict}
 use Rattle.rules.specs.Records.{circuitAt, flagsAt, records}
 use Rattle.validity.proofs.record.Statement.{statement}
@@ -30,7 +30,7 @@ two c =
     let a = three .before .before .before .args in
     let y = three .before .circuit-at .ensures in
     let f = three .flags-and-levels .ensures ∙ ap (λ (y : Circuit). flagsAt (now (a .t)) (a .i) && levelsOk y) y in
-    let g = c .before .fields-ok .ensures ∙ ap (fieldsOk codeOk) y in
+    let g = c .before .fields-ok .ensures ∙ ap (fieldsOk pointCodeOk) y in
     search ways depth 8
 
 three : tie.Need-returns-3
@@ -40,7 +40,7 @@ three c =
     let a = five .before .before .before .args in
     let y = five .before .circuit-at .ensures in
     let f = five .flags-and-levels .ensures ∙ ap (λ (y : Circuit). flagsAt (now (a .t)) (a .i) && levelsOk y) y in
-    let g = c .before .before .before .fields-ok .ensures ∙ ap (fieldsOk codeOk) y in
+    let g = c .before .before .before .fields-ok .ensures ∙ ap (fieldsOk pointCodeOk) y in
     search ways depth 8
 
 -- past the first three reasons the fourth decides
@@ -51,7 +51,7 @@ past c last =
     let a = six .before .before .before .args in
     let y = six .before .circuit-at .ensures in
     if-so _ _ _ (six .flags-and-levels .ensures ∙ ap (λ (y : Circuit). flagsAt (now (a .t)) (a .i) && levelsOk y) y) (not-false _ (c .before .before .before .before .before .if1 .left))
-    (if-so _ _ _ (c .before .before .before .before .fields-ok .ensures ∙ ap (fieldsOk codeOk) y) (not-false _ (c .before .before .before .if2 .left))
+    (if-so _ _ _ (c .before .before .before .before .fields-ok .ensures ∙ ap (fieldsOk pointCodeOk) y) (not-false _ (c .before .before .before .if2 .left))
     (if-so _ _ _ (c .before .before .blank .ensures) (not-false _ (c .before .if3 .left)) last))
 
 four : tie.Need-returns-4

@@ -1,12 +1,10 @@
 -- The records, and where they have no fault the references.
-use Prim.Native.Nat.{_/_}
 use mathlib.Core.Path.{sym, ap, _∙_}
-use lib.ListN.{length}
 use denote.Ref.{now}
 use borrow.Author.Needs.{needs}
 use Rattle.rules.specs.declared.verdict.Verdict.{Verdict}
 use Rattle.rules.specs.Valid.{orFault, isValid, partsTo, verdict}
-use Rattle.rules.specs.Records.{records}
+use Rattle.rules.specs.Records.{records, circuits}
 use Rattle.validity.proofs.Faults.{no-fault, fault-first}
 use Rattle.validity.proofs.verdict.Statement.{statement}
 use Rattle.validity.proofs.verdict.Tie as tie
@@ -17,7 +15,7 @@ sound c =
     let v = c .before .before .before .each-record .ensures in
     let t = now (c .before .before .before .before .before .args .t) in
     let none = no-fault _ (sym (c .before .before .is-valid .ensures) ∙ c .before .if1 .taken) in
-    c .each-reference .ensures ∙ sym (ap (λ (w : Verdict). orFault w (partsTo records t (length t / 32))) (sym v ∙ none))
+    c .each-reference .ensures ∙ sym (ap (λ (w : Verdict). orFault w (partsTo records t (circuits t))) (sym v ∙ none))
 
 faulty : tie.Need-returns-2
 unfolding verdict records

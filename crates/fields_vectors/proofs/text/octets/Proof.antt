@@ -1,6 +1,5 @@
 -- The loop counts to nine.
 use Prim.Native.Nat.{_≤_, _-_}
-use native.Mathlib.Omega.{arith}
 use borrow.Author.Needs.{needs}
 use Rattle.fields_vectors.proofs.text.octets.Statement.{statement}
 use Rattle.fields_vectors.proofs.text.octets.Tie as tie

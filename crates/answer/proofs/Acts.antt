@@ -19,5 +19,5 @@ module _ (x : ℕ → Circuit) (n : ℕ) (e : Event) where
   alone Cancel i = refl
 
   -- o was found to be an act on a circuit, which is y
-  pub told : (a : Act) (i : ℕ) {o : Outcome} {y : Circuit} {r : Answer} → o ≡ Do a i → y ≡ x i → r ≡ answerOf (λ _. y) 0 e (Do a i) → r ≡ answerOf x n e o
-  told a i p q h = h ∙ ap (λ (c : Circuit). answerOf (λ _. c) 0 e (Do a i)) q ∙ alone a i ∙ ap (answerOf x n e) (sym p)
+  pub by-act : (a : Act) (i : ℕ) {o : Outcome} {y : Circuit} {r : Answer} → o ≡ Do a i → y ≡ x i → r ≡ answerOf (λ _. y) 0 e (Do a i) → r ≡ answerOf x n e o
+  by-act a i p q h = h ∙ ap (λ (c : Circuit). answerOf (λ _. c) 0 e (Do a i)) q ∙ alone a i ∙ ap (answerOf x n e) (sym p)

@@ -7,14 +7,14 @@ use borrow.Author.Count.{below-none}
 use borrow.Author.Needs.{needs}
 use Rattle.rules.specs.declared.part.Part.{Part}
 use Rattle.rules.specs.Circuit.{isOf}
-use Rattle.rules.specs.Valid.{partNo}
+use Rattle.rules.specs.Valid.{partNumbered}
 use Rattle.rules.specs.Records.{circuitAt}
 use Rattle.choice.proofs.Walk.{Passed, went-on, returned, ended}
-use Rattle.choice.proofs.standing.Statement.{statement}
-use Rattle.choice.proofs.standing.Tie as tie
+use Rattle.choice.proofs.circuit_of.Statement.{statement}
+use Rattle.choice.proofs.circuit_of.Tie as tie
 
 abbrev on : List ℕ → ℕ → ℕ → Part  -- the parts of one side
-on t side i = partNo (circuitAt t) (2 * i + side)
+on t side i = partNumbered (circuitAt t) (2 * i + side)
 
 abbrev Inv-loop : tie.InvT-loop
 Inv-loop t reference side n i₀ i = Passed (isOf reference) (on t side) i
@@ -28,7 +28,7 @@ returns c =
     let at = read .before .before in
     let a = at .before .before .before .args in
     returned (isOf (a .reference)) (on (now (a .t)) (a .side)) (at .loop .i) (at .loop .inv)
-    (at .before .count .ensures) (read .before .loop-test .taken) (read .part-no .ensures) (c .before .is-of .ensures) (c .if1 .taken)
+    (at .before .count .ensures) (read .before .loop-test .taken) (read .part-numbered .ensures) (c .before .is-of .ensures) (c .if1 .taken)
 
 loop-again : tie.Need-loop-again Inv-loop μ-loop
 loop-again c =
@@ -36,7 +36,7 @@ loop-again c =
     let at = read .before .before in
     let a = at .before .before .before .args in
     went-on (isOf (a .reference)) (on (now (a .t)) (a .side)) (at .loop .i) (at .loop .inv)
-    (read .part-no .ensures) (c .before .is-of .ensures) (c .if1 .left)
+    (read .part-numbered .ensures) (c .before .is-of .ensures) (c .if1 .left)
 
 returns-2 : tie.Need-returns-2 Inv-loop μ-loop
 returns-2 c =
@@ -44,8 +44,8 @@ returns-2 c =
     let a = at .before .before .before .args in
     ended (isOf (a .reference)) (on (now (a .t)) (a .side)) (at .loop .i) (at .loop .inv) (at .before .count .ensures) (c .loop-test .left)
 
-pub standing-spec : {M : Type 1} → statement M
-standing-spec =
+pub circuit-of-spec : {M : Type 1} → statement M
+circuit-of-spec =
     tie.close
     (tie.spec
     Inv-loop

@@ -1,27 +1,24 @@
 -- By what the search for its reservation found.
-use Prim.Native.Nat.{_/_}
 use mathlib.Core.Path.{ap, _∙_}
-use lib.ListN.{length}
 use denote.Ref.{now}
-use Rattle.rules.specs.declared.circuit.Circuit.{Circuit}
 use Rattle.rules.specs.declared.outcome.Act.the-variants.{Seize}
 use Rattle.rules.specs.declared.outcome.Refusal.{Refusal}
 use Rattle.rules.specs.declared.outcome.Outcome.the-variants.{Refuse, Do}
 use Rattle.rules.specs.Search.{found}
 use Rattle.rules.specs.Choice.{choice}
-use Rattle.rules.specs.Decision.{onReservation}
-use Rattle.rules.specs.Records.{circuitAt}
+use Rattle.rules.specs.Decision.{chosen, onReservation}
+use Rattle.rules.specs.Records.{circuitAt, circuits}
 use Rattle.decision.proofs.Findings.{at-read, none, found-below}
 use Rattle.decision.proofs.Named.{reserved-below}
 use borrow.Author.Needs.{needs}
-use Rattle.decision.proofs.unheld.Statement.{statement}
-use Rattle.decision.proofs.unheld.Tie as tie
+use Rattle.decision.proofs.set_up_unheld.Statement.{statement}
+use Rattle.decision.proofs.set_up_unheld.Tie as tie
 
 circuit-at-requires : tie.Need-circuit-at-requires
 circuit-at-requires c κs =
     let a = c .before .before .before .before .before .before .args in
     let x = circuitAt (now (a .t)) in
-    let n = length (now (a .t)) / 32 in
+    let n = circuits (now (a .t)) in
     found-below (c .before .i .given .1) (c .before .before .before .reserved-by .ensures) (reserved-below n x (a .e .reference))
 
 returns : tie.Need-returns
@@ -34,11 +31,11 @@ returns-2 : tie.Need-returns-2
 returns-2 c =
     let a = c .before .before .before .before .before .before .before .args in
     c .chosen .ensures
-    ∙ ap (λ (w : Refusal). found (choice (circuitAt (now (a .t))) (length (now (a .t)) / 32) (a .e .mark)) (Do Seize) (Refuse w)) (c .before .blocked .ensures)
+    ∙ ap (λ (w : Refusal). chosen (circuitAt (now (a .t))) (circuits (now (a .t))) (a .e) Seize w) (c .before .blocked .ensures)
     ∙ none _ _ (c .before .before .enum-told .given .1) (c .before .before .before .before .reserved-by .ensures)
 
-pub unheld-spec : {M : Type 1} → statement M
-unheld-spec =
+pub set-up-unheld-spec : {M : Type 1} → statement M
+set-up-unheld-spec =
     tie.close
     (tie.spec
     (λ c κs. search needs)

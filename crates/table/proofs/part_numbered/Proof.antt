@@ -3,11 +3,11 @@ use mathlib.Core.Path.{_∙_}
 use denote.Ref.{now}
 use Rattle.table.proofs.Numbered.{numbered}
 use borrow.Author.Needs.{needs}
-use Rattle.table.proofs.part_no.Statement.{statement}
-use Rattle.table.proofs.part_no.Tie as tie
+use Rattle.table.proofs.part_numbered.Statement.{statement}
+use Rattle.table.proofs.part_numbered.Tie as tie
 
-pub part-no-spec : {M : Type 1} → statement M
-part-no-spec =
+pub part-numbered-spec : {M : Type 1} → statement M
+part-numbered-spec =
     tie.close
     (tie.spec
     (λ c. search needs)

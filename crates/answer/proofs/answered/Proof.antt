@@ -1,16 +1,16 @@
 -- By what was decided.
-use Prim.Native.Nat.{ℕ, _/_, _<_}
+use Prim.Native.Nat.{ℕ}
 use mathlib.Core.Path.{sym, ap, subst, _∙_}
-use lib.ListN.{length}
 use denote.Ref.{now}
 use native.Mathlib.Omega.{arith}
-use Rattle.rules.specs.Answer.{nowhere, noLoser, answerOf}
-use Rattle.rules.specs.Records.{circuitAt}
+use Rattle.rules.specs.Answer.{noDetail, noLoser, answerOf}
+use Rattle.rules.specs.Numbers.{clockTaken}
+use Rattle.rules.specs.Records.{circuitAt, circuits}
 use Rattle.rules.specs.Ready.{Ready}
-use Rattle.answer.proofs.Told.{told}
+use Rattle.answer.proofs.Acts.{by-act}
 use borrow.Author.Needs.{needs}
-use Rattle.answer.proofs.answer.Statement.{statement}
-use Rattle.answer.proofs.answer.Tie as tie
+use Rattle.answer.proofs.answered.Statement.{statement}
+use Rattle.answer.proofs.answered.Tie as tie
 
 cast-acted : tie.Need-cast-acted
 cast-acted c =
@@ -27,23 +27,23 @@ returns : tie.Need-returns
 unfolding answerOf
 returns c =
     let a = c .before .before .before .before .before .before .args in
-    c .no-loser .ensures ∙ ap (λ (k : ℕ). noLoser k nowhere) (c .before .number .ensures)
-    ∙ ap (answerOf (circuitAt (now (a .t))) (length (now (a .t)) / 32) (a .e)) (sym (c .before .before .before .o .given .1))
+    c .no-loser .ensures ∙ ap (λ (k : ℕ). noLoser k noDetail) (c .before .number .ensures)
+    ∙ ap (answerOf (circuitAt (now (a .t))) (circuits (now (a .t))) (a .e)) (sym (c .before .before .before .o .given .1))
 
 returns-2 : tie.Need-returns-2
 returns-2 c =
     let a = c .before .before .before .before .before .before .args in
-    told (circuitAt (now (a .t))) (length (now (a .t)) / 32) (a .e) _ _ (c .before .before .before .o2 .given .1) (c .before .circuit-at .ensures) (c .acted .ensures)
+    by-act (circuitAt (now (a .t))) (circuits (now (a .t))) (a .e) _ _ (c .before .before .before .o2 .given .1) (c .before .circuit-at .ensures) (c .acted .ensures)
 
 returns-3 : tie.Need-returns-3
 unfolding answerOf
 returns-3 c =
     let a = c .before .before .before .before .before .args in
-    c .no-loser2 .ensures ∙ ap (noLoser 7) (c .before .removed .ensures)
-    ∙ ap (answerOf (circuitAt (now (a .t))) (length (now (a .t)) / 32) (a .e)) (sym (c .before .before .enum-told .given .1))
+    c .no-loser2 .ensures ∙ ap (noLoser clockTaken) (c .before .removed .ensures)
+    ∙ ap (answerOf (circuitAt (now (a .t))) (circuits (now (a .t))) (a .e)) (sym (c .before .before .enum-told .given .1))
 
-pub answer-spec : {M : Type 1} → statement M
-answer-spec =
+pub answered-spec : {M : Type 1} → statement M
+answered-spec =
     tie.close
     (tie.spec
     (λ c. search needs)

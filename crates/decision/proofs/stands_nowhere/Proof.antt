@@ -2,11 +2,11 @@
 use mathlib.Core.Path.{_∙_}
 use Rattle.decision.proofs.Findings.{at, none}
 use borrow.Author.Needs.{needs}
-use Rattle.decision.proofs.nowhere.Statement.{statement}
-use Rattle.decision.proofs.nowhere.Tie as tie
+use Rattle.decision.proofs.stands_nowhere.Statement.{statement}
+use Rattle.decision.proofs.stands_nowhere.Tie as tie
 
-pub nowhere-spec : {M : Type 1} → statement M
-nowhere-spec =
+pub stands-nowhere-spec : {M : Type 1} → statement M
+stands-nowhere-spec =
     tie.close
     (tie.spec
     (λ c κs. search needs)

@@ -1,0 +1,23 @@
+-- Four, then the fifth.
+use mathlib.Core.Path.{_≡_, sym, _∙_}
+use mathlib.Core.Bool.{false, _&&_}
+use Prim.Native.Nat.{_+_}
+use lib.ListN.{getD}
+use lib.Dec.{eqb}
+use denote.Ref.{now}
+use Rattle.octets.specs.Span.{span, zeros}
+use Rattle.octets.proofs.Tests.{both}
+use Rattle.octets.proofs.Spans.{zeros-more}
+use borrow.Author.Needs.{needs}
+use Rattle.octets.proofs.zero_five.Statement.{statement}
+use Rattle.octets.proofs.zero_five.Tie as tie
+
+pub zero-five-spec : {M : Type 1} → statement M
+zero-five-spec =
+    tie.close
+    (tie.spec
+    (λ c κs. search needs)
+    (λ c. let a = c .before .before .before .args in let way : false ≡ zeros (span (now (a .s)) (a .at) 4) && eqb (getD (now (a .s)) (a .at + 4) 0) 0 = search both in way ∙ sym (zeros-more (now (a .s)) (a .at) 4))
+    (λ c. search needs)
+    (λ c. search needs)
+    (λ c. let a = c .before .before .before .before .args in let way : eqb (getD (now (a .s)) (a .at + 4) 0) 0 ≡ zeros (span (now (a .s)) (a .at) 4) && eqb (getD (now (a .s)) (a .at + 4) 0) 0 = search both in way ∙ sym (zeros-more (now (a .s)) (a .at) 4)))

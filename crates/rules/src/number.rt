@@ -1,0 +1,42 @@
+// The numbers given back: first what is accepted, then the refusals in the order in which they are tried.
+
+// The list was carried out, the table is valid, or the field was read or written.
+pub const DONE: u8 = 0;
+
+pub const SEIZED: u8 = 1;
+
+pub const SEIZED_WITH_LOSS: u8 = 2;
+
+pub const RESERVED: u8 = 3;
+
+pub const RESERVED_WITH_LOSS: u8 = 4;
+
+pub const RELEASED: u8 = 5;
+
+pub const CANCELLED: u8 = 6;
+
+pub const CLOCK_TAKEN: u8 = 7;
+
+pub const WRONG_LENGTH: u8 = 20;
+
+pub const MALFORMED: u8 = 22;
+
+pub const TABLE_NOT_VALID: u8 = 21;
+
+pub const LOOK_AHEAD_NOT_ALLOWED: u8 = 23;
+
+pub const LOOK_AHEAD_BY_ROUTINE: u8 = 24;
+
+pub const ALREADY_PRESENT: u8 = 25;
+
+pub const RESERVATION_DIFFERS: u8 = 26;
+
+pub const HOLDER_NOT_LOWER: u8 = 28;
+
+pub const NOT_PRESENT: u8 = 27;
+
+pub const NO_CIRCUIT_ROUTINE: u8 = 30;
+
+pub const NO_CIRCUIT_PRECEDENCE: u8 = 31;
+
+pub const NO_CIRCUIT_LOOK_AHEAD: u8 = 32;
