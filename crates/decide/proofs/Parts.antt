@@ -1,4 +1,4 @@
--- A part of a row of octets that was lent: read, or written and back.
+-- A part of a row of octets that was lent, written and back.
 use Prim.Native.Nat.{ℕ, zero, suc, _+_, _≤_, _<_}
 use mathlib.Core.Path.{_≡_, sym, ap, _∙_}
 use mathlib.Core.List.{List, [], _∷_, _++_}
@@ -8,13 +8,6 @@ use lib.Seq.{length-take-le, set-append-left, ext-getD, getD-take, getD-drop}
 use borrow.Rule.Slice.PartMut.{midOf, postOf, putMid, put-same}
 use Rattle.octets.specs.Span.{span, putTo, put}
 use Rattle.octets.proofs.Spans.{length-span, span-at, length-putTo}
-
--- the part as it is lent
-pub part-span : (t : List ℕ) (o w : ℕ) → o + w ≤ length t → take w (drop o t) ≡ span t o w
-part-span t o w f =
-    let fits : w ≤ length (drop o t) = omega (arith, length-drop o t) in
-    ext-getD 0 (take w (drop o t)) (span t o w) (length-take-le w (drop o t) fits ∙ sym (length-span t o w))
-    (λ i h. let l : i < w = omega (arith, length-take-le w (drop o t) fits) in getD-take w (drop o t) i 0 l ∙ getD-drop o t i 0 ∙ sym (span-at t o w i l))
 
 set-behind : (xs ys : List ℕ) (n i x : ℕ) → length xs ≡ n → set (xs ++ ys) (n + i) x ≡ xs ++ set ys i x
 set-behind [] ys n i x e = ap (λ (k : ℕ). set ys k x) (omega arith)

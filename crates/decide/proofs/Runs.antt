@@ -13,7 +13,7 @@ use Rattle.rules.specs.Run.{run, answerRecords}
 use Rattle.rules.specs.Records.{records}
 use Rattle.rules.proofs.Kept.{answers-append}
 use Rattle.route.specs.Entries.{eventsTo, eventsIn, listTable, listAnswers}
-use Rattle.route.proofs.Listed.{told-length}
+use Rattle.route.proofs.Listed.{answers-length}
 use Rattle.route.proofs.Whole.{list-facts}
 use Rattle.lines.specs.Event.{line}
 use Rattle.decide.specs.Listing.{listingTo, listing, RunningOn}
@@ -92,7 +92,7 @@ list-by-list before t first places rest h =
     let told = flatten (answerRecords records t (eventsIn first)) in
     let after = run records t (eventsIn first) in
     let whole : length first % 16 ≡ 0 = list-facts t first places h .1 in
-    let size : length told ≡ 16 * (length first / 16) = told-length t first (length first / 16) in
+    let size : length told ≡ 16 * (length first / 16) = answers-length t first (length first / 16) in
     let split : answersTo t (first ++ rest) ≡ told ++ answersTo after rest = ap (λ (es : List (List ℕ)). flatten (answerRecords records t es)) (events-append first rest whole) ∙ ap flatten (answers-append records (eventsIn first) (eventsIn rest) t) ∙ flatten-append (answerRecords records t (eventsIn first)) (answerRecords records after (eventsIn rest)) in
     let number : length told / 16 ≡ length first / 16 = omega arith in
     ap (listing before) split ∙ running-on before told (answersTo after rest) (omega arith)

@@ -3,19 +3,25 @@ use Prim.Native.Nat.{ℕ, zero, suc, _+_, _*_, _/_, _%_}
 use mathlib.Core.Path.{_≡_}
 use mathlib.Core.List.{List, [], _++_}
 use lib.ListN.{length}
-use Rattle.octets.specs.Span.{span}
-use Rattle.lines.specs.Event.{line}
+use Rattle.rules.specs.Records.{answerSize, answerIn, mostEvents}
+use Rattle.lines.specs.Event.{line, mostLetters}
 
--- the lines of the first k answers, 16 octets each, behind so many events that were answered before
+abbrev pub lastNumber : ℕ  -- a list that comes after fewer events is numbered in 64 bits
+lastNumber = 18446744073709547520
+
+abbrev pub room : ℕ  -- enough for the lines of a list
+room = mostEvents * mostLetters
+
+-- the lines of the first k answers, after so many events that were answered before
 abbrev pub listingTo : ℕ → List ℕ → ℕ → List ℕ
 listingTo before answers zero = []
-listingTo before answers (suc k) = listingTo before answers k ++ line (before + suc k) (span answers (16 * k) 16)
+listingTo before answers (suc k) = listingTo before answers k ++ line (before + suc k) (answerIn answers k)
 
 unfoldable pub listing : ℕ → List ℕ → List ℕ  -- the lines of a list's answers
-listing before answers = listingTo before answers (length answers / 16)
+listing before answers = listingTo before answers (length answers / answerSize)
 
 -- lists one after another give the lines of one long list: the numbers run on
 abbrev pub RunningOn : Type 0
 RunningOn =
-    (before : ℕ) (first second : List ℕ) → length first % 16 ≡ 0
-    → listing before (first ++ second) ≡ listing before first ++ listing (before + length first / 16) second
+    (before : ℕ) (first second : List ℕ) → length first % answerSize ≡ 0
+    → listing before (first ++ second) ≡ listing before first ++ listing (before + length first / answerSize) second

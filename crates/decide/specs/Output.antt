@@ -6,7 +6,8 @@ use mathlib.Core.List.{List, [], _++_, flatten}
 use lib.ListN.{length}
 use lib.Dec.{eqb}
 use Rattle.rules.specs.Run.{answerRecords}
-use Rattle.rules.specs.Records.{records, checkNumber}
+use Rattle.rules.specs.Numbers.{done}
+use Rattle.rules.specs.Records.{eventSize, records, checkNumber}
 use Rattle.route.specs.Entries.{eventsIn, listLengths, listTable, listAnswers}
 use Rattle.lines.specs.Event.{header, short, badTable}
 use Rattle.decide.specs.Listing.{listing}
@@ -20,11 +21,12 @@ leftOver n = cond (eqb n 0) [] (short n)
 -- a table that the check refuses: the only line; else the header, a line an event, the last part
 unfoldable pub output : List ℕ → List ℕ → List ℕ
 output t input =
-    cond (eqb (checkNumber t) 0) (header ++ listing 0 (answersTo t input) ++ leftOver (length input % 16)) (badTable (checkNumber t))
+    cond (eqb (checkNumber t) done) (header ++ listing 0 (answersTo t input) ++ leftOver (length input % eventSize)) (badTable (checkNumber t))
 
--- events taken as lists one after another give the lines of all of them: those of the first list, and behind them those of the rest over
+-- events taken as lists one after another give the lines of all of them: those of the first list, and after them those of the rest over
 -- the table that the list left
 abbrev pub ListByList : Type 0
 ListByList =
     (before : ℕ) (t first places rest : List ℕ) → listLengths t first places ≡ true
-    → listing before (answersTo t (first ++ rest)) ≡ listing before (listAnswers t first places) ++ listing (before + length first / 16) (answersTo (listTable t first places) rest)
+    → listing before (answersTo t (first ++ rest))
+    ≡ listing before (listAnswers t first places) ++ listing (before + length first / eventSize) (answersTo (listTable t first places) rest)

@@ -14,6 +14,7 @@ use Rattle.rules.specs.Run.{outcomeOf, effect, after, answerRecord, answered}
 use Rattle.rules.specs.Records.{putCircuit, flagsAt, blankAt, records, checkNumber, tableLength}
 use Rattle.rules.specs.Vectors.{event, setsUp, releases, looksAhead, ticks, immediate, priority}
 use Rattle.rules.specs.Vectors as paper
+use Rattle.fields.specs.Reference.{valuesOf}
 use Rattle.route.specs.Entries.{eventsIn}
 use Rattle.lines.specs.Text.{letters, decimalIn}
 use Rattle.lines.specs.Event.{party, line}
@@ -21,5 +22,5 @@ use Rattle.decide.specs.Listing.{listing}
 use Rattle.decide.specs.Output.{answersTo, output}
 
 pub shown : output (replicate 64 0) (flatten paper.listing) ≡ letters "event answer cause number call reservation\n1 1 0 0 - -\n2 3 0 1 - -\n3 2 0 0 1/1 -\n4 31 46 - - -\n5 27 0 - - -\n6 7 0 0 - -\n7 7 0 1 - -\n8 1 0 1 - -\n9 30 34 - - -\n"
-unfolding flatten immediate priority event setsUp releases looksAhead ticks paper.listing answerRecord answered after effect outcomeOf decision setUp lookAhead release cancel onReservation choice heldBy reservedBy rank worth takeable answerOf valid verdict recordVerdict repeated levelsOk fieldsOk pairOk decimal pointCodeOk wellFormed parameterOk records putCircuit flagsAt blankAt checkNumber tableLength eventsIn answersTo output decimalIn party line listing
+unfolding flatten immediate priority event setsUp releases looksAhead ticks paper.listing answerRecord answered after effect outcomeOf decision setUp lookAhead release cancel onReservation choice heldBy reservedBy rank worth takeable answerOf valid verdict recordVerdict repeated levelsOk fieldsOk pairOk decimal pointCodeOk wellFormed parameterOk records putCircuit flagsAt blankAt checkNumber tableLength eventsIn answersTo output decimalIn valuesOf party line listing
 shown = refl

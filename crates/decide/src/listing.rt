@@ -1,50 +1,60 @@
 // A list of events applied to the table, and the lines of its answers.
+use events::ANSWER_SIZE;
+use events::MOST_EVENTS;
 ghost use mathlib.Core.Path.{_≡_};
-ghost use Prim.Native.Nat.{_+_, _≤_, _<_};
+ghost use Prim.Native.Nat.{_+_, _*_, _≤_, _<_};
 ghost use lib.ListN.{length};
-ghost use Rattle.octets.specs.Span.{span};
+ghost use Rattle.rules.specs.Records.{answerSize, mostEvents};
 ghost use Rattle.route.specs.Entries.{listTable, listAnswers};
 ghost use Rattle.lines.specs.Text.{Written};
-ghost use Rattle.lines.specs.Event.{line};
-ghost use Rattle.decide.specs.Listing.{listing};
+ghost use Rattle.lines.specs.Event.{line, mostLetters};
+ghost use Rattle.decide.specs.Listing.{lastNumber, room, listing};
 
-// Room for the lines of a list, 65 octets each.
-pub fn space() -> [u8; 266240]
-    ensures { λ r. ⌜ 266240 ≡ length r ⌝ }
+// Room for the lines of a list of most events, each of most letters: 4,096 times 65.
+pub const ROOM: usize = 266240;
+
+// A text in which the lines of a list have room.
+pub fn space() -> [u8; ROOM]
+    ensures { λ r. ⌜ room ≡ length r ⌝ }
 {
-    [0; 266240]
+    [0; ROOM]
 }
 
-// The sixteen octets of the answer at a place.
-fn answer_at(answers: &[u8], o: usize) -> [u8; 16]
-    requires { ⌜ o + 16 ≤ length (now answers) ⌝ }
-    ensures { λ r. ⌜ r ≡ span (now (answers .entry)) o 16 ⌝ }
+// The number of events answered after a full list.
+pub fn numbered_on(before: u64) -> u64
+    requires { ⌜ before < lastNumber ⌝ }
+    ensures { λ r. ⌜ r ≡ before + mostEvents ⌝ }
 {
-    let mut a = [0u8; 16];
-    octets::write(&mut a, 0, &answers[o..o + 16]);
-    a
+    before + MOST_EVENTS as u64
 }
 
-// The line of an event at a place of the text; the place behind it.
-fn line_at(text: &mut [u8], at: usize, number: u64, a: [u8; 16]) -> usize
-    requires { ⌜ at + 65 ≤ length (now text) ⌝ }
+// The line of an event, written from a place of the text on; the place after it comes back.
+fn line_at(text: &mut [u8], at: usize, number: u64, a: [u8; ANSWER_SIZE]) -> usize
+    requires { ⌜ at + mostLetters ≤ length (now text) ⌝ }
     ensures { λ r. ⌜ Written (now (text .entry)) at (line number a) (now (text .exit)) r ⌝ }
-    ensures { λ r. ⌜ r ≤ at + 65 ⌝ }
+    ensures { λ r. ⌜ r ≤ at + mostLetters ⌝ }
 {
     at + lines::event::line(&mut text[at..], number, a)
 }
 
-// The lines of a list's answers, behind so many events that were answered before.
+// The lines of a list's answers, after so many events that were answered before.
 fn listing(before: u64, answers: &[u8], text: &mut [u8]) -> usize
-    requires { ⌜ (length (now answers) ≤ 65536) × (before < 18446744073709547520) × (266240 ≤ length (now text)) ⌝ }
+    requires { ⌜ length (now answers) ≤ answerSize * mostEvents ⌝ }
+    requires { ⌜ before < lastNumber ⌝ }
+    requires { ⌜ room ≤ length (now text) ⌝ }
     ensures { λ r. ⌜ Written (now (text .entry)) 0 (listing before (now (answers .entry))) (now (text .exit)) r ⌝ }
-    ensures { λ r. ⌜ r ≤ 266240 ⌝ }
+    ensures { λ r. ⌜ r ≤ room ⌝ }
 {
-    let n = answers.len() / 16;
+    let n = answers.len() / ANSWER_SIZE;
     let mut at = 0;
     let mut k = 0;
     while k < n {
-        at = line_at(text, at, before + k as u64 + 1, answer_at(answers, 16 * k));
+        at = line_at(
+            text,
+            at,
+            before + k as u64 + 1,
+            events::answer_at(answers, k),
+        );
         k += 1;
     }
     at
@@ -58,10 +68,14 @@ pub fn decided(
     places: &mut [u8],
     text: &mut [u8],
 ) -> usize
-    requires { ⌜ (length (now places) ≤ 65536) × (before < 18446744073709547520) × (266240 ≤ length (now text)) ⌝ }
-    ensures { λ _. ⌜ now (table .exit) ≡ listTable (now (table .entry)) (now (events .entry)) (now (places .entry)) ⌝ }
-    ensures { λ r. ⌜ Written (now (text .entry)) 0 (listing before (listAnswers (now (table .entry)) (now (events .entry)) (now (places .entry)))) (now (text .exit)) r ⌝ }
-    ensures { λ r. ⌜ r ≤ 266240 ⌝ }
+    requires { ⌜ length (now places) ≤ answerSize * mostEvents ⌝ }
+    requires { ⌜ before < lastNumber ⌝ }
+    requires { ⌜ room ≤ length (now text) ⌝ }
+    ensures table { λ _. ⌜ now (table .exit) ≡ listTable (now (table .entry)) (now (events .entry)) (now (places .entry)) ⌝ }
+    ensures text { λ r. ⌜ Written (now (text .entry)) 0
+        (listing before (listAnswers (now (table .entry)) (now (events .entry)) (now (places .entry))))
+        (now (text .exit)) r ⌝ }
+    ensures end { λ r. ⌜ r ≤ room ⌝ }
 {
     route::list(table, events, places);
     listing(before, places, text)

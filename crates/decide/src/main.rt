@@ -1,13 +1,26 @@
 // The program: the table from circuits.bin, events from standard input, and one line an event under a header.
 mod listing;
 
+use events::EVENT_SIZE;
 use libc::STDIN_FILENO;
-ghost use Prim.Native.Nat.{_≤_, _<_};
+ghost use Prim.Native.Nat.{_*_, _≤_, _<_};
 ghost use lib.ListN.{length};
+ghost use Rattle.rules.specs.Records.{eventSize, mostEvents};
+ghost use Rattle.decide.specs.Listing.{lastNumber};
 
-// One list, as lines on standard output, behind so many events that were answered before; whether they were written.
-fn answer(before: u64, table: &mut [u8], events: &[u8]) -> bool
-    requires { ⌜ (length (now events) ≤ 65536) × (before < 18446744073709547520) ⌝ }
+// The octets of a list of most events.
+const FULL_LIST: usize = 65536;
+
+// The list that comes after so many events is numbered in 64 bits: 2^64 less 4,096.
+const LAST_NUMBER: u64 = 18446744073709547520;
+
+// One octet more than the largest table, so that a longer file is seen.
+const TABLE_SPACE: usize = 8193;
+
+// One list, as lines on standard output, after so many events that were answered before; whether they were written.
+fn print_list(before: u64, table: &mut [u8], events: &[u8]) -> bool
+    requires { ⌜ length (now events) ≤ eventSize * mostEvents ⌝ }
+    requires { ⌜ before < lastNumber ⌝ }
 {
     let n = events.len();
     let mut places = io::large_buffer();
@@ -18,16 +31,16 @@ fn answer(before: u64, table: &mut [u8], events: &[u8]) -> bool
 
 // One list from standard input; whether another may come.
 fn turn(before: u64, table: &mut [u8]) -> bool
-    requires { ⌜ before < 18446744073709547520 ⌝ }
+    requires { ⌜ before < lastNumber ⌝ }
 {
     let mut events = io::large_buffer();
     let taken = streams::fill(STDIN_FILENO, &mut events);
     let n = taken.octets;
-    let whole = n - n % 16;
-    if !answer(before, table, &events[..whole]) {
+    let whole = n - n % EVENT_SIZE;
+    if !print_list(before, table, &events[..whole]) {
         return false;
     }
-    if n == 65536 {
+    if n == FULL_LIST {
         return true;
     }
     streams::ended(taken);
@@ -37,14 +50,15 @@ fn turn(before: u64, table: &mut [u8]) -> bool
 // Lists one after another, each of 4,096 events but the last, as far as 64 bits number them: to event 2^64 - 4,096.
 fn lists(table: &mut [u8]) {
     let mut before: u64 = 0;
-    while before < 18446744073709547520 {
+    while before < LAST_NUMBER {
         if !turn(before, table) {
             return;
         }
-        before += 4096;
+        before = listing::numbered_on(before);
     }
 }
 
+// The line above those of the events; whether it was written.
 fn header() -> bool {
     let mut text = [0u8; 64];
     let n = lines::event::header(&mut text);
@@ -52,7 +66,7 @@ fn header() -> bool {
 }
 
 fn main() {
-    let mut space = [0u8; 8193];
+    let mut space = [0u8; TABLE_SPACE];
     let n = streams::table(&mut space);
     if n == 0 {
         return;

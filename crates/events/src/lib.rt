@@ -1,4 +1,4 @@
-// Events read from their octets, and answers written in theirs. No other code knows where their fields stand.
+// Events read from their octets, answers written in theirs and read again. No other code knows where their fields stand.
 use rules::answer::Answer;
 use rules::event::Event;
 use rules::level::Level;
@@ -9,8 +9,9 @@ use rules::part::Reference;
 ghost use mathlib.Core.Path.{_≡_};
 ghost use Prim.Native.Nat.{_+_, _*_, _≤_};
 ghost use lib.ListN.{length};
+ghost use Rattle.octets.specs.Number.{Octets};
 ghost use Rattle.octets.specs.Span.{span, put};
-ghost use Rattle.rules.specs.Records.{eventSize, eventIn, markIn, referenceIn, eventAt, answerSize, answerOctets};
+ghost use Rattle.rules.specs.Records.{eventSize, eventIn, markIn, referenceIn, eventAt, answerSize, answerOctets, answerIn, answerNumber, answerCause, answerDetail, lostCall, lostReservation};
 
 // The octets of an event.
 pub const EVENT_SIZE: usize = 16;
@@ -102,4 +103,55 @@ pub fn write(answers: &mut [u8], k: usize, a: Answer)
 {
     let v = record(a);
     octets::write(answers, ANSWER_SIZE * k, &v);
+}
+
+// Answer k, of those that stand one after another.
+pub fn answer_at(answers: &[u8], k: usize) -> [u8; ANSWER_SIZE]
+    requires { ⌜ answerSize * k + answerSize ≤ length (now answers) ⌝ }
+    ensures { λ r. ⌜ r ≡ answerIn (now (answers .entry)) k ⌝ }
+{
+    let o = ANSWER_SIZE * k;
+    let mut a = [0u8; ANSWER_SIZE];
+    octets::write(&mut a, 0, &answers[o..o + ANSWER_SIZE]);
+    a
+}
+
+// The number of an answer.
+pub fn number(a: [u8; ANSWER_SIZE]) -> u8
+    ensures { λ r. ⌜ r ≡ answerNumber a ⌝ }
+{
+    a[0]
+}
+
+// The cause in an answer.
+pub fn cause(a: [u8; ANSWER_SIZE]) -> u8
+    ensures { λ r. ⌜ r ≡ answerCause a ⌝ }
+{
+    a[1]
+}
+
+// The detail of an answer.
+pub fn detail(a: [u8; ANSWER_SIZE]) -> u16
+    ensures { λ r. ⌜ r ≡ answerDetail a ⌝ }
+{
+    octets::join_two(a[2], a[3])
+}
+
+// A lost party in an answer: its flag, and its reference.
+pub type Lost = [u8; 6];
+
+// The holder that an answer names as lost.
+pub fn lost_call(a: [u8; ANSWER_SIZE]) -> Lost
+    ensures party { λ r. ⌜ r ≡ lostCall a ⌝ }
+    ensures octets { λ r. ⌜ Octets r ⌝ }
+{
+    [a[4], a[5], a[6], a[7], a[8], a[9]]
+}
+
+// The reservation that an answer names as lost.
+pub fn lost_reservation(a: [u8; ANSWER_SIZE]) -> Lost
+    ensures party { λ r. ⌜ r ≡ lostReservation a ⌝ }
+    ensures octets { λ r. ⌜ Octets r ⌝ }
+{
+    [a[10], a[11], a[12], a[13], a[14], a[15]]
 }

@@ -1,38 +1,49 @@
 -- How long the lines are.
-use Prim.Native.Nat.{ℕ, _+_, _%_, _^_, _≤_, _<_}
-use mathlib.Core.Path.{subst}
+use Prim.Native.Nat.{ℕ, _+_, _^_, _≤_, _<_}
 use mathlib.Core.List.{List, _++_}
 use native.Mathlib.Omega.{arith}
 use lib.Dec.{eqb}
 use lib.ListN.{length, getD, length-append}
-use Rattle.octets.specs.Span.{span, number}
+use Rattle.octets.specs.Span.{span}
 use Rattle.octets.proofs.Tests.{by-test}
-use Rattle.octets.proofs.Spans.{length-span, octets-each}
-use Rattle.octets.proofs.Width.{value-lt}
+use Rattle.octets.specs.Number.{Octets}
+use Rattle.octets.proofs.Width.{octet-at}
+use Rattle.rules.specs.Fields.{referenceSize}
+use Rattle.rules.specs.Answer.{noDetail}
+use Rattle.rules.specs.Records.{answerNumber, answerCause, answerDetail, lostCall, lostReservation}
+use Rattle.fields.specs.Reference.{valuesOf}
 use Rattle.lines.specs.Text.{letters, decimal}
-use Rattle.lines.specs.Event.{place, party, line}
+use Rattle.lines.specs.Event.{detail, party, field, numbers, line, mostLetters}
 use Rattle.lines.proofs.Decimals.{decimal-length}
 
-module _ (a : List ℕ) (each : (i : ℕ) → getD a i 0 < 256) where
-  number-lt : (o w : ℕ) → number a o w < 256 ^ w
-  number-lt o w = subst (λ (k : ℕ). number a o w < 256 ^ k) (length-span a o w) (value-lt (span a o w) (octets-each a each o w))
+-- of a lost party, by the octets of its flag and reference
+party-length : (lost : List ℕ) → Octets lost → length (party lost) ≤ 14
+unfolding party valuesOf
+party-length lost octets =
+    let v = valuesOf (span lost 1 referenceSize) in
+    let identity = decimal (v .identity) in
+    let point = decimal (v .point) in
+    let each = octet-at lost octets in
+    let high : v .identity < 10 ^ 8 = omega (arith, each 1, each 2, each 3) in
+    let low : v .point < 10 ^ 5 = omega (arith, each 4) in
+    by-test (λ (l : List ℕ). length l ≤ 14) (eqb (getD lost 0 0) 1) (identity ++ letters "/" ++ point) (letters "-")
+    (λ _. omega (arith, length-append (identity ++ letters "/") point, length-append identity (letters "/"), decimal-length 20 (v .identity) 7 high, decimal-length 20 (v .point) 4 low))
+    (λ _. omega arith)
 
-  place-length : length (place (number a 2 2)) ≤ 5
-  place-length =
-      by-test (λ (l : List ℕ). length l ≤ 5) (eqb (number a 2 2) 65535) (letters "-") (decimal (number a 2 2)) (λ _. omega arith)
-      (λ _. decimal-length 20 (number a 2 2) 4 (omega (arith, number-lt 2 2)))
+module _ (a : List ℕ) where
+  detail-length : answerDetail a < 65536 → length (detail (answerDetail a)) ≤ 5
+  detail-length l =
+      by-test (λ (t : List ℕ). length t ≤ 5) (eqb (answerDetail a) noDetail) (letters "-") (decimal (answerDetail a)) (λ _. omega arith)
+      (λ _. decimal-length 20 (answerDetail a) 4 (omega arith))
 
-  party-length : (o : ℕ) → length (party a o) ≤ 14
-  unfolding party
-  party-length o =
-      let identity = decimal (number a (o + 1) 3) in
-      let code = decimal (number a (o + 4) 2 % 16384) in
-      by-test (λ (l : List ℕ). length l ≤ 14) (eqb (getD a o 0) 1) (identity ++ letters "/" ++ code) (letters "-")
-      (λ _. omega (arith, length-append (identity ++ letters "/") code, length-append identity (letters "/"), decimal-length 20 (number a (o + 1) 3) 7 (omega (arith, number-lt (o + 1) 3)), decimal-length 20 (number a (o + 4) 2 % 16384) 4 (omega arith)))
-      (λ _. omega arith)
-
-  pub line-length : (n : ℕ) → n < 10 ^ 20 → length (line n a) ≤ 65
-  unfolding line
-  line-length n h =
+  pub numbers-length : answerNumber a < 256 → answerCause a < 256 → answerDetail a < 65536 → (n : ℕ) → n < 10 ^ 20 → length (numbers n a) ≤ 34
+  numbers-length k c d n l =
       simp length-append
-      (omega (arith, decimal-length 20 n 19 h, decimal-length 20 (getD a 0 0) 2 (omega (arith, each 0)), decimal-length 20 (getD a 1 0) 2 (omega (arith, each 1)), place-length, party-length 4, party-length 10))
+      (omega (arith, decimal-length 20 n 19 l, decimal-length 20 (answerNumber a) 2 (omega arith), decimal-length 20 (answerCause a) 2 (omega arith), detail-length d))
+
+  pub line-length : Octets (lostCall a) → Octets (lostReservation a) → (n : ℕ) → length (numbers n a) ≤ 34 → length (line n a) ≤ mostLetters
+  unfolding line
+  line-length h r n l =
+      let call = field (party (lostCall a)) in
+      let reservation = field (party (lostReservation a)) in
+      omega (arith, length-append (numbers n a ++ call ++ reservation) (letters "\n"), length-append (numbers n a ++ call) reservation, length-append (numbers n a) call, length-append (letters " ") (party (lostCall a)), length-append (letters " ") (party (lostReservation a)), party-length (lostCall a) h, party-length (lostReservation a) r)

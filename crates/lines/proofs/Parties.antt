@@ -1,36 +1,24 @@
--- A lost party, by its flag and the octets of its reference one by one.
-use Prim.Native.Nat.{ℕ, _+_, _%_}
-use mathlib.Core.Path.{_≡_, ap₂, _∙_, refl}
-use mathlib.Core.List.{List, [], _∷_, _++_}
-use native.Mathlib.Omega.{arith}
+-- A lost party, by its flag and the values of its reference.
+use Prim.Native.Nat.{ℕ}
+use mathlib.Core.Path.{_≡_, ap, refl}
+use mathlib.Core.List.{List}
 use lib.ListN.{getD}
-use Rattle.octets.specs.Number.{value}
-use Rattle.octets.specs.Span.{number}
+use Rattle.octets.specs.Span.{span}
 use Rattle.octets.proofs.Tests.{if-eq, if-ne}
-use Rattle.lines.specs.Text.{letters, decimal}
-use Rattle.lines.specs.Event.{party}
+use Rattle.rules.specs.Fields.{referenceSize}
+use Rattle.fields.specs.declared.reference.Reference.{Reference}
+use Rattle.fields.specs.Reference.{valuesOf}
+use Rattle.lines.specs.Text.{letters}
+use Rattle.lines.specs.Event.{named, party}
 
-module _ (a : List ℕ) (o : ℕ) where
-  abbrev named : ℕ → ℕ → List ℕ
-  named identity code = decimal identity ++ letters "/" ++ decimal (code % 16384)
+module _ (lost : List ℕ) where
+  abbrev somebody : List ℕ
+  somebody = named (valuesOf (span lost 1 referenceSize))
 
-  three : value (getD a (o + 1) 0 ∷ getD a (o + 2) 0 ∷ getD a (o + 3) 0 ∷ []) ≡ number a (o + 1) 3
-  three =
-      let first : o + 1 ≡ o + 1 + 0 = omega arith in
-      let second : o + 2 ≡ o + 1 + 1 = omega arith in
-      let third : o + 3 ≡ o + 1 + 2 = omega arith in
-      λ i. value (getD a (first i) 0 ∷ getD a (second i) 0 ∷ getD a (third i) 0 ∷ [])
-
-  two : value (getD a (o + 4) 0 ∷ getD a (o + 5) 0 ∷ []) ≡ number a (o + 4) 2
-  two =
-      let first : o + 4 ≡ o + 4 + 0 = omega arith in
-      let second : o + 5 ≡ o + 4 + 1 = omega arith in
-      λ i. value (getD a (first i) 0 ∷ getD a (second i) 0 ∷ [])
-
-  pub nobody : (getD a o 0 ≡ 1 → ⊥) → letters "-" ≡ party a o
+  pub dash : (getD lost 0 0 ≡ 1 → ⊥) → letters "-" ≡ party lost
   unfolding party
-  nobody h = if-ne (named (number a (o + 1) 3) (number a (o + 4) 2)) (letters "-") (getD a o 0) 1 h refl
+  dash h = if-ne somebody (letters "-") (getD lost 0 0) 1 h refl
 
-  pub somebody : {identity code : ℕ} → getD a o 0 ≡ 1 → identity ≡ value (getD a (o + 1) 0 ∷ getD a (o + 2) 0 ∷ getD a (o + 3) 0 ∷ []) → code ≡ value (getD a (o + 4) 0 ∷ getD a (o + 5) 0 ∷ []) → named identity code ≡ party a o
+  pub by-name : {v : Reference} → getD lost 0 0 ≡ 1 → v ≡ valuesOf (span lost 1 referenceSize) → named v ≡ party lost
   unfolding party
-  somebody h i c = if-eq (named (number a (o + 1) 3) (number a (o + 4) 2)) (letters "-") (getD a o 0) 1 h (ap₂ named (i ∙ three) (c ∙ two))
+  by-name h e = if-eq somebody (letters "-") (getD lost 0 0) 1 h (ap named e)

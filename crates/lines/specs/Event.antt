@@ -1,31 +1,43 @@
 -- 01, "The program and its whole output": the line of an event, and the lines that stand alone.
-use Prim.Native.Nat.{ℕ, _+_, _%_}
+use Prim.Native.Nat.{ℕ}
 use mathlib.Core.Bool.{cond}
 use mathlib.Core.List.{List, _++_}
 use lib.ListN.{getD}
 use lib.Dec.{eqb}
-use Rattle.octets.specs.Span.{number}
+use Rattle.octets.specs.Span.{span}
+use Rattle.rules.specs.Fields.{referenceSize}
+use Rattle.rules.specs.Answer.{noDetail}
+use Rattle.rules.specs.Records.{answerNumber, answerCause, answerDetail, lostCall, lostReservation}
+use Rattle.fields.specs.declared.reference.Reference.{Reference}
+use Rattle.fields.specs.Reference.{valuesOf}
 use Rattle.lines.specs.Text.{letters, decimal}
 
 abbrev pub header : List ℕ
 header = letters "event answer cause number call reservation\n"
 
-abbrev pub place : ℕ → List ℕ  -- number (octets 2-3, `-` for 65535)
-place n = cond (eqb n 65535) (letters "-") (decimal n)
+abbrev pub detail : ℕ → List ℕ  -- number (octets 2-3, `-` for 65535)
+detail n = cond (eqb n noDetail) (letters "-") (decimal n)
 
--- a lost party (identity/point code or `-`), by the octets of an answer from its flag on
-unfoldable pub party : List ℕ → ℕ → List ℕ
-party a o =
-    cond (eqb (getD a o 0) 1) (decimal (number a (o + 1) 3) ++ letters "/" ++ decimal (number a (o + 4) 2 % 16384)) (letters "-")
+abbrev pub named : Reference → List ℕ  -- identity/point code
+named v = decimal (v .identity) ++ letters "/" ++ decimal (v .point)
 
-abbrev pub field : List ℕ → List ℕ  -- behind a space
+-- a lost party (identity/point code or `-`), by its flag and its reference
+unfoldable pub party : List ℕ → List ℕ
+party lost = cond (eqb (getD lost 0 0) 1) (named (valuesOf (span lost 1 referenceSize))) (letters "-")
+
+abbrev pub field : List ℕ → List ℕ  -- after a space
 field text = letters " " ++ text
 
--- event, answer, cause, number, lost call and lost reservation, by the event's number and the 16 octets of its answer
+abbrev pub numbers : ℕ → List ℕ → List ℕ  -- event, answer, cause, number
+numbers n a =
+    decimal n ++ field (decimal (answerNumber a)) ++ field (decimal (answerCause a)) ++ field (detail (answerDetail a))
+
+-- then lost call and lost reservation, by the event's number and the record of its answer
 unfoldable pub line : ℕ → List ℕ → List ℕ
-line n a =
-    decimal n ++ field (decimal (getD a 0 0)) ++ field (decimal (getD a 1 0)) ++ field (place (number a 2 2)) ++ field (party a 4) ++ field (party a 10)
-    ++ letters "\n"
+line n a = numbers n a ++ field (party (lostCall a)) ++ field (party (lostReservation a)) ++ letters "\n"
+
+abbrev pub mostLetters : ℕ  -- no line of an event is longer
+mostLetters = 65
 
 abbrev pub short : ℕ → List ℕ  -- a last part of n octets
 short n = letters "short " ++ decimal n ++ letters "\n"

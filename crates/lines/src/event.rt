@@ -1,12 +1,17 @@
 // The line of an event, and the lines that stand alone.
 use crate::text;
+use events::ANSWER_SIZE;
+use events::Lost;
+use fields::reference::Reference;
+use rules::answer::NO_DETAIL;
 ghost use mathlib.Core.List.{_++_};
 ghost use Prim.Native.Nat.{_+_, _≤_};
 ghost use lib.ListN.{length};
 ghost use Rattle.lines.specs.Text.{letters, decimal, Written};
+ghost use Rattle.lines.specs.Event.{mostLetters};
 ghost use Rattle.lines.specs.Event as rule;
 
-// A number behind a space.
+// A number after a space.
 fn field(out: &mut [u8], at: usize, n: u64) -> usize
     requires { ⌜ at ≤ 800 ⌝ }
     ensures { λ r. ⌜ Written (now (out .entry)) at (rule.field (decimal n)) (now (out .exit)) r ⌝ }
@@ -16,58 +21,68 @@ fn field(out: &mut [u8], at: usize, n: u64) -> usize
     text::number(out, from, n)
 }
 
-// Octets 2-3 behind a space.
-fn place(out: &mut [u8], at: usize, n: u16) -> usize
+// The detail of an answer, after a space.
+fn detail(out: &mut [u8], at: usize, n: u16) -> usize
     requires { ⌜ at ≤ 800 ⌝ }
-    ensures { λ r. ⌜ Written (now (out .entry)) at (rule.field (rule.place n)) (now (out .exit)) r ⌝ }
+    ensures { λ r. ⌜ Written (now (out .entry)) at (rule.field (rule.detail n)) (now (out .exit)) r ⌝ }
     ensures { λ r. ⌜ r ≤ at + 21 ⌝ }
 {
-    if n == 65535 {
+    if n == NO_DETAIL {
         return text::put(out, at, b" -");
     }
     field(out, at, n as u64)
 }
 
-// The reference of a party that was lost, behind a space.
-fn lost(out: &mut [u8], at: usize, identity: u32, code: u16) -> usize
+// The call reference of a party that was lost, after a space.
+fn named(out: &mut [u8], at: usize, v: Reference) -> usize
     requires { ⌜ at ≤ 700 ⌝ }
-    ensures { λ r. ⌜ Written (now (out .entry)) at (rule.field (decimal identity ++ letters "/" ++ decimal code)) (now (out .exit)) r ⌝ }
-    ensures { λ r. ⌜ r ≤ at + 42 ⌝ }
+    ensures text { λ r. ⌜ Written (now (out .entry)) at (rule.field (rule.named v)) (now (out .exit)) r ⌝ }
+    ensures end { λ r. ⌜ r ≤ at + 42 ⌝ }
 {
-    let from = field(out, at, identity as u64);
-    let behind = text::put(out, from, b"/");
-    text::number(out, behind, code as u64)
+    let identity = field(out, at, v.identity as u64);
+    let stroke = text::put(out, identity, b"/");
+    text::number(out, stroke, v.point as u64)
 }
 
-// The lost party whose flag is octet o of the answer, behind a space.
-fn party(out: &mut [u8], at: usize, a: [u8; 16], o: usize) -> usize
-    requires { ⌜ (at ≤ 700) × (o + 6 ≤ 16) ⌝ }
-    ensures { λ r. ⌜ Written (now (out .entry)) at (rule.field (rule.party a o)) (now (out .exit)) r ⌝ }
-    ensures { λ r. ⌜ r ≤ at + 42 ⌝ }
+// A lost party, after a space: its call reference, or a dash where nobody was lost.
+fn party(out: &mut [u8], at: usize, lost: Lost) -> usize
+    requires { ⌜ at ≤ 700 ⌝ }
+    ensures text { λ r. ⌜ Written (now (out .entry)) at (rule.field (rule.party lost)) (now (out .exit)) r ⌝ }
+    ensures end { λ r. ⌜ r ≤ at + 42 ⌝ }
 {
-    if a[o] != 1 {
+    if lost[0] != 1 {
         return text::put(out, at, b" -");
     }
-    let identity = octets::join_three(a[o + 1], a[o + 2], a[o + 3]);
-    let code = octets::join_two(a[o + 4], a[o + 5]) % 16384;
-    lost(out, at, identity, code)
+    let octets = [lost[1], lost[2], lost[3], lost[4], lost[5]];
+    named(out, at, fields::reference::values(octets))
 }
 
-// The line of event n, by the octets of its answer.
-pub fn line(out: &mut [u8], n: u64, a: [u8; 16]) -> usize
-    ensures { λ r. ⌜ Written (now (out .entry)) 0 (rule.line n a) (now (out .exit)) r ⌝ }
-    ensures { λ r. ⌜ r ≤ 65 ⌝ }
+// The first four fields of the line of event n: its number, and the number, the cause and the detail of its answer.
+fn numbers(out: &mut [u8], n: u64, a: [u8; ANSWER_SIZE]) -> usize
+    ensures text { λ r. ⌜ Written (now (out .entry)) 0 (rule.numbers n a) (now (out .exit)) r ⌝ }
+    ensures end { λ r. ⌜ r ≤ 34 ⌝ }
 {
     let event = text::number(out, 0, n);
-    let answer = field(out, event, a[0] as u64);
-    let cause = field(out, answer, a[1] as u64);
-    let number = place(out, cause, octets::join_two(a[2], a[3]));
-    let call = party(out, number, a, 4);
-    let reservation = party(out, call, a, 10);
+    let answer = field(out, event, events::number(a) as u64);
+    let cause = field(out, answer, events::cause(a) as u64);
+    detail(out, cause, events::detail(a))
+}
+
+// The most letters that the line of an event has, its end counted.
+pub const MOST_LETTERS: usize = 65;
+
+// The line of event n, by the record of its answer.
+pub fn line(out: &mut [u8], n: u64, a: [u8; ANSWER_SIZE]) -> usize
+    ensures text { λ r. ⌜ Written (now (out .entry)) 0 (rule.line n a) (now (out .exit)) r ⌝ }
+    ensures end { λ r. ⌜ r ≤ mostLetters ⌝ }
+{
+    let numbers = numbers(out, n, a);
+    let call = party(out, numbers, events::lost_call(a));
+    let reservation = party(out, call, events::lost_reservation(a));
     text::put(out, reservation, b"\n")
 }
 
-// Above the lines of the events.
+// The line above those of the events.
 pub fn header(out: &mut [u8]) -> usize
     ensures { λ r. ⌜ Written (now (out .entry)) 0 rule.header (now (out .exit)) r ⌝ }
 {
@@ -81,11 +96,11 @@ fn numbered(out: &mut [u8], word: &[u8], n: u64) -> usize
     ensures { λ r. ⌜ r ≤ 41 ⌝ }
 {
     let from = text::put(out, 0, word);
-    let behind = text::number(out, from, n);
-    text::put(out, behind, b"\n")
+    let end = text::number(out, from, n);
+    text::put(out, end, b"\n")
 }
 
-// Behind them, where n octets were left over.
+// The line after those of the events, where n octets were left over.
 pub fn short(out: &mut [u8], n: u64) -> usize
     ensures { λ r. ⌜ Written (now (out .entry)) 0 (rule.short n) (now (out .exit)) r ⌝ }
     ensures { λ r. ⌜ r ≤ 41 ⌝ }

@@ -1,4 +1,4 @@
-// Letters and decimal numbers, written from a place on; the place behind them comes back. Lines are far shorter than 1,000 octets, so
+// Letters and decimal numbers, written from a place on; the place after them comes back. Lines are far shorter than 1,000 octets, so
 // that no place wraps.
 ghost use mathlib.Core.Path.{_≡_};
 ghost use Prim.Native.Nat.{_+_, _≤_};
@@ -14,7 +14,7 @@ pub fn letter(out: &mut [u8], at: usize, c: u8)
     }
 }
 
-// Letters one behind the other.
+// Letters one after the other.
 pub fn put(out: &mut [u8], at: usize, text: &[u8]) -> usize
     requires { ⌜ at + length (now text) ≤ 1000 ⌝ }
     ensures { λ r. ⌜ Written (now (out .entry)) at (now (text .entry)) (now (out .exit)) r ⌝ }

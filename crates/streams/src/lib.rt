@@ -1,7 +1,12 @@
 // Where the programs' octets come from and go to: the table file, standard input, standard output.
+use events::EVENT_SIZE;
+use rules::number::DONE;
 ghost use Prim.Native.Nat.{_≤_};
 ghost use lib.ListN.{length};
 ghost use Rattle.streams.specs.Table.{Checked};
+
+// Room for a line that stands alone.
+const LINE: usize = 64;
 
 // The octets that were read, and whether a read failed.
 pub struct Taken {
@@ -62,14 +67,16 @@ fn file(buffer: &mut [u8]) -> Taken
     taken
 }
 
+// The only line, where there is no table file.
 fn no_table() {
-    let mut text = [0u8; 64];
+    let mut text = [0u8; LINE];
     let n = lines::event::no_table(&mut text);
     write(&text[..n]);
 }
 
+// The only line, where the check refuses the table.
 fn bad_table(number: u8) {
-    let mut text = [0u8; 64];
+    let mut text = [0u8; LINE];
     let n = lines::event::bad_table(&mut text, number);
     write(&text[..n]);
 }
@@ -85,17 +92,17 @@ pub fn table(buffer: &mut [u8]) -> usize
         return 0;
     }
     let number = validity::check(&buffer[..n]);
-    if number != 0 {
+    if number != DONE {
         bad_table(number);
         return 0;
     }
     n
 }
 
-// Behind the last whole event: a line where octets were left over; where a read failed, why, on standard error.
+// What is said after the last whole event: a line where octets were left over; where a read failed, why, on standard error.
 pub fn ended(taken: Taken) {
-    let n = taken.octets % 16;
-    let mut text = [0u8; 64];
+    let n = taken.octets % EVENT_SIZE;
+    let mut text = [0u8; LINE];
     if taken.failed {
         os::fail(b"standard input");
         return;

@@ -3,7 +3,8 @@ use native.Mathlib.Numerals.{add-one}
 use mathlib.Core.List.{_++_}
 use denote.Ref.{now}
 use Rattle.octets.proofs.Spans.{length-put}
-use Rattle.lines.specs.Event.{line}
+use Rattle.rules.specs.Records.{answerSize}
+use Rattle.lines.specs.Event.{line, mostLetters}
 use Rattle.lines.proofs.Joined.{joined, said}
 use Prim.Native.Nat.{suc, _+_, _*_, _-_, _/_, _≤_}
 use mathlib.Core.Path.{_≡_, ap, refl, sym, _∙_}
@@ -15,7 +16,7 @@ use Rattle.decide.proofs.listing.listing.Statement.{statement}
 use Rattle.decide.proofs.listing.listing.Tie as tie
 
 abbrev Inv-loop : tie.InvT-loop
-Inv-loop before answers text₀ n at₀ k₀ text at k = (k ≤ n) × Written text₀ 0 (listingTo before answers k) text at × (at ≤ 65 * k) × (length text ≡ length text₀)
+Inv-loop before answers text₀ n at₀ k₀ text at k = (k ≤ n) × Written text₀ 0 (listingTo before answers k) text at × (at ≤ mostLetters * k) × (length text ≡ length text₀)
 
 abbrev μ-loop : tie.MeasureT-loop
 μ-loop before answers text₀ n at₀ k₀ text at k = n - k
@@ -38,7 +39,7 @@ unfolding listing
 returns c =
     let l = c .before .loop in
     let a = c .before .before .before .before .args in
-    let done : l .k ≡ length (now (a .answers)) / 16 = omega arith in
+    let done : l .k ≡ length (now (a .answers)) / answerSize = omega arith in
     (said (ap (listingTo (a .before) (now (a .answers))) done) (l .inv .1), omega arith)
 
 pub listing-spec : {M : Type 1} → statement M
@@ -48,7 +49,6 @@ listing-spec =
     Inv-loop
     μ-loop
     loop-holds
-    (λ c. omega arith)
     (λ c. omega arith)
     (λ c. omega arith)
     (λ c κs. omega arith)

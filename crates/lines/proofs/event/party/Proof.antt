@@ -1,9 +1,9 @@
--- Nobody, or somebody.
+-- Nobody, or somebody by name.
 use mathlib.Core.Path.{ap}
 use native.Mathlib.Omega.{arith}
 use Rattle.lines.specs.Event.{field}
 use Rattle.lines.proofs.Joined.{said}
-use Rattle.lines.proofs.Parties.{nobody, somebody}
+use Rattle.lines.proofs.Parties.{dash, by-name}
 use borrow.Author.Needs.{needs}
 use Rattle.lines.proofs.event.party.Statement.{statement}
 use Rattle.lines.proofs.event.party.Tie as tie
@@ -11,14 +11,15 @@ use Rattle.lines.proofs.event.party.Tie as tie
 returns : tie.Need-returns
 returns c =
     let a = c .before .before .before .before .before .before .before .args in
-    (said (ap field (nobody (a .t3) (a .o) (c .before .before .before .before .before .if1 .taken))) (c .before .before .put .ensures), omega (arith, c .before .before .put .ensures .end))
+    let written = c .before .before .put .ensures in
+    (said (ap field (dash (a .t3) (c .before .before .before .before .before .if1 .taken))) written, omega (arith, written .end))
 
 returns-2 : tie.Need-returns-2
 returns-2 c =
-    let read = c .before .before .before .before in
+    let written = c .before .before .named in
+    let read = c .before .before .before in
     let a = read .before .before .before .before .args in
-    let e = somebody (a .t3) (a .o) (read .before .before .if1 .left) (read .before .join-three .ensures) (read .join-two .ensures) in
-    (said (ap field e) (c .before .before .lost .ensures .0), c .before .before .lost .ensures .1)
+    (said (ap field (by-name (a .t3) (read .before .before .if1 .left) (read .values .ensures))) (written .ensures .0), written .ensures .1)
 
 pub party-spec : {M : Type 1} → statement M
 party-spec =
@@ -30,12 +31,6 @@ party-spec =
     (λ c. search needs)
     returns
     (λ c. search needs)
-    (λ c. search needs)
-    (λ c. search needs)
-    (λ c. search needs)
-    (λ c. search needs)
-    (λ c. search needs)
-    (λ c κs. search needs)
     (λ c. search needs)
     (λ c. search needs)
     (λ c. search needs)
