@@ -77,7 +77,8 @@ fn drawing(table: &[u8]) -> String {
     let (_, lit, words) = independent::lamps(table);
     let lamp = |word: u64, bit: usize| if word >> bit & 1 == 1 { '*' } else { '.' };
     let rows: String = words.iter().map(|&word| (0..64).map(|bit| lamp(word, bit)).collect::<String>() + "\n").collect();
-    format!("{}lit {}\n", rows, lit)
+    let first = rows.replace('\n', "").find('*').map_or(String::new(), |circuit| format!(", first {}", circuit));
+    format!("{}lit {}{}\n", rows, lit, first)
 }
 
 fn panel() -> String {

@@ -1,4 +1,4 @@
--- A text written behind another; the same text in other words.
+-- A text written after another; the same text in other words.
 use Prim.Native.Nat.{ℕ, _+_}
 use mathlib.Core.Path.{_≡_, ap₂, _∙_, subst}
 use mathlib.Core.List.{List, _++_}

@@ -8,13 +8,14 @@ use native.Mathlib.Omega.{arith}
 use lib.ListN.{length, getD, length-append, List·getD-append}
 use lib.Seq.{getD-append-add}
 use Rattle.octets.proofs.Spans.{grow}
+use Rattle.rules.specs.declared.search.Found.{Found}
 use Rattle.lamps.specs.Lamps.{bit}
-use Rattle.lines.specs.Text.{letters, decimal}
-use Rattle.lines.specs.Panel.{lamp, lampsTo, row, rowsTo, drawing}
+use Rattle.lines.specs.Text.{letters}
+use Rattle.lines.specs.Panel.{lamp, lampsTo, row, rowsTo, lastLine, drawing}
 
--- behind a text of n letters stands the next text
-behind : (l m : List ℕ) (n i : ℕ) → length l ≡ n → getD (l ++ m) (n + i) 0 ≡ getD m i 0
-behind l m n i e = ap (λ (k : ℕ). getD (l ++ m) (k + i) 0) (sym e) ∙ getD-append-add l m i 0
+-- after a text of n letters stands the next text
+after : (l m : List ℕ) (n i : ℕ) → length l ≡ n → getD (l ++ m) (n + i) 0 ≡ getD m i 0
+after l m n i e = ap (λ (k : ℕ). getD (l ++ m) (k + i) 0) (sym e) ∙ getD-append-add l m i 0
 
 one-letter : (on : Bool) → length (lamp on) ≡ 1
 one-letter true = refl
@@ -31,7 +32,7 @@ module _ (w : ℕ) where
       let place : n ≡ n + 0 = omega arith in
       grow (λ (k : ℕ). getD (lampsTo w (suc n)) k 0 ≡ getD (lamp (bit w k)) 0 0) n
       (λ k h. List·getD-append (lampsTo w n) (lamp (bit w n)) 0 k (omega (arith, lamps-length n)) ∙ lamps-at n k h)
-      (ap (λ (k : ℕ). getD (lampsTo w (suc n)) k 0) place ∙ behind (lampsTo w n) (lamp (bit w n)) n 0 (lamps-length n)) i l
+      (ap (λ (k : ℕ). getD (lampsTo w (suc n)) k 0) place ∙ after (lampsTo w n) (lamp (bit w n)) n 0 (lamps-length n)) i l
 
   row-length : length (row w) ≡ 65
   unfolding row
@@ -51,16 +52,11 @@ module _ (words : List ℕ) where
   rows-at i h (suc n) j l =
       grow (λ (k : ℕ). getD (rowsTo words (suc n)) (65 * k + i) 0 ≡ getD (row (getD words k 0)) i 0) n
       (λ k m. List·getD-append (rowsTo words n) (row (getD words n 0)) 0 (65 * k + i) (omega (arith, rows-length n)) ∙ rows-at i h n k m)
-      (behind (rowsTo words n) (row (getD words n 0)) (65 * n) i (rows-length n)) j l
+      (after (rowsTo words n) (row (getD words n 0)) (65 * n) i (rows-length n)) j l
 
   -- lamp i of row j
-  pub drawn-at : (lit j i : ℕ) → j < 4 → i < 64 → getD (drawing words lit) (65 * j + i) 0 ≡ getD (lamp (bit (getD words j 0) i)) 0 0
+  pub drawn-at : (lit : ℕ) (first : Found) (j i : ℕ) → j < 4 → i < 64 → getD (drawing words lit first) (65 * j + i) 0 ≡ getD (lamp (bit (getD words j 0) i)) 0 0
   unfolding drawing
-  drawn-at lit j i l h =
-      let rows = rowsTo words 4 in
-      let word = length-append rows (letters "lit ") in
-      let number = length-append (rows ++ letters "lit ") (decimal lit) in
-      List·getD-append (rows ++ letters "lit " ++ decimal lit) (letters "\n") 0 (65 * j + i) (omega (arith, rows-length 4, word, number))
-      ∙ List·getD-append (rows ++ letters "lit ") (decimal lit) 0 (65 * j + i) (omega (arith, rows-length 4, word))
-      ∙ List·getD-append rows (letters "lit ") 0 (65 * j + i) (omega (arith, rows-length 4)) ∙ rows-at i (omega arith) 4 j l
+  drawn-at lit first j i l h =
+      List·getD-append (rowsTo words 4) (lastLine lit first) 0 (65 * j + i) (omega (arith, rows-length 4)) ∙ rows-at i (omega arith) 4 j l
       ∙ row-at (getD words j 0) i h

@@ -1,8 +1,10 @@
--- The lamp map on a terminal: four rows of 64 lamps, and the number lit.
+-- The lamp map on a terminal: four rows of 64 lamps, then the number lit and the first lamp lit.
 use Prim.Native.Nat.{ℕ, zero, suc}
 use mathlib.Core.Bool.{Bool, cond}
 use mathlib.Core.List.{List, [], _++_}
 use lib.ListN.{getD}
+use Rattle.rules.specs.declared.search.Found.{Found}
+use Rattle.rules.specs.declared.search.Found.the-variants.{At, Nothing}
 use Rattle.lamps.specs.Lamps.{bit}
 use Rattle.lines.specs.Text.{letters, decimal}
 
@@ -20,5 +22,16 @@ abbrev pub rowsTo : List ℕ → ℕ → List ℕ  -- the first j rows
 rowsTo words zero = []
 rowsTo words (suc j) = rowsTo words j ++ row (getD words j 0)
 
-unfoldable pub drawing : List ℕ → ℕ → List ℕ  -- by the four words, and the number lit
-drawing words lit = rowsTo words 4 ++ letters "lit " ++ decimal lit ++ letters "\n"
+abbrev pub firstLit : Found → List ℕ  -- the number of the first lamp lit, where one is
+firstLit (At i) = letters ", first " ++ decimal i
+firstLit Nothing = []
+
+unfoldable pub lastLine : ℕ → Found → List ℕ  -- the number lit, and the first lamp lit
+lastLine lit first = letters "lit " ++ decimal lit ++ firstLit first ++ letters "\n"
+
+unfoldable pub drawing : List ℕ → ℕ → Found → List ℕ  -- by the four words, the number lit and the first lamp lit
+drawing words lit first = rowsTo words 4 ++ lastLine lit first
+
+-- a drawing is never longer: four rows of 65 letters, two numbers of at most 20 digits, their words and the end of the line
+abbrev pub mostLetters : ℕ
+mostLetters = 313

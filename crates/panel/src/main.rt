@@ -1,43 +1,57 @@
 // The lamp map of the table in circuits.bin, and again after the events on standard input.
+use events::EVENT_SIZE;
+use events::MOST_EVENTS;
 use libc::STDIN_FILENO;
+use lines::panel::MOST_LETTERS;
 use streams::Taken;
+use table::CIRCUIT_SIZE;
+use table::MOST_CIRCUITS;
 ghost use Prim.Native.Nat.{_≤_};
 ghost use Rattle.lines.specs.Text.{Written};
+ghost use Rattle.lines.specs.Panel.{mostLetters};
 ghost use Rattle.panel.specs.Drawn.{panel};
+
+// The room for the table's file: one octet more than the largest table has, so that a longer file is seen to be too long.
+const TABLE_ROOM: usize = CIRCUIT_SIZE * MOST_CIRCUITS + 1;
+
+// The octets of a full list.
+const FULL_LIST: usize = EVENT_SIZE * MOST_EVENTS;
 
 // The panel of a table, as text.
 fn drawn(table: &[u8], text: &mut [u8]) -> usize
-    ensures { λ r. ⌜ Written (now (text .entry)) 0 (panel (now (table .entry))) (now (text .exit)) r ⌝ }
-    ensures { λ r. ⌜ r ≤ 285 ⌝ }
+    ensures text { λ r. ⌜ Written (now (text .entry)) 0 (panel (now (table .entry))) (now (text .exit)) r ⌝ }
+    ensures within { λ r. ⌜ r ≤ mostLetters ⌝ }
 {
     let map = lamps::map(table);
     let words = map.words;
-    lines::panel::draw(text, words, map.lit)
+    let first = lamps::lowest(words);
+    lines::panel::draw(text, words, map.lit, first)
 }
 
+// Writes the panel of a table to standard output; whether it was written.
 fn draw(table: &[u8]) -> bool {
-    let mut text = [0u8; 285];
+    let mut text = [0u8; MOST_LETTERS];
     let n = drawn(table, &mut text);
     streams::write(&text[..n])
 }
 
 // One list from standard input, applied to the table; its answers are not looked at.
 fn turn(table: &mut [u8]) -> Taken {
-    let mut events = io::large_buffer();
-    let mut answers = io::large_buffer();
+    let mut events = [0u8; FULL_LIST];
+    let mut answers = [0u8; FULL_LIST];
     let taken = streams::fill(STDIN_FILENO, &mut events);
     let n = taken.octets;
-    let whole = n - n % 16;
+    let whole = n - n % EVENT_SIZE;
     route::list(table, &events[..whole], &mut answers[..whole]);
     taken
 }
 
-// The lists behind the first, each of 4,096 events but the last; what the last one was.
+// The lists after the first, each of them full but the last; what the last one was.
 fn last(table: &mut [u8], first: Taken) -> Taken {
     let mut taken = first;
     let mut turns = u64::MAX;
     while turns > 0 {
-        if taken.octets < 65536 {
+        if taken.octets < FULL_LIST {
             return taken;
         }
         taken = turn(table);
@@ -46,13 +60,13 @@ fn last(table: &mut [u8], first: Taken) -> Taken {
     taken
 }
 
-// Before the events and, if there are any, after them, with an empty line between.
+// Draws the panel before the events and, if there are any, after them, with an empty line between.
 fn twice(table: &mut [u8]) {
     if !draw(table) {
         return;
     }
     let first = turn(table);
-    if first.octets < 16 {
+    if first.octets < EVENT_SIZE {
         streams::ended(first);
         return;
     }
@@ -66,7 +80,7 @@ fn twice(table: &mut [u8]) {
 }
 
 fn main() {
-    let mut space = [0u8; 8193];
+    let mut space = [0u8; TABLE_ROOM];
     let n = streams::table(&mut space);
     if n == 0 {
         return;

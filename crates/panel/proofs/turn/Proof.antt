@@ -12,14 +12,12 @@ slice-aggregate-list c = sym (length-take-le _ _ (omega (arith, c .before .befor
 slice-aggregate-list-2 : tie.Need-slice-aggregate-list-2
 slice-aggregate-list-2 c =
     let fill = c .before .before .before .before .fill in
-    sym (length-take-le _ _ (omega (arith, fill .ensures, fill .kept .1 .0, c .before .before .before .before .before .before .large-buffer2 .ensures)))
+    sym (length-take-le _ _ (omega (arith, fill .ensures, fill .kept .1 .0)))
 
 pub turn-spec : {M : Type 1} → statement M
 turn-spec =
     tie.close
     (tie.spec
-    (λ c κs. search needs)
-    (λ c κs. search needs)
     (λ c. search needs)
     (λ c κs. search needs)
     (λ c. search needs)
