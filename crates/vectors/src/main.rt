@@ -1,0 +1,14 @@
+// Both sides of every line of document 01: a script on standard input, written out again with the answer of each row after it.
+mod asked;
+mod field;
+mod scene;
+mod script;
+mod text;
+
+use libc::STDIN_FILENO;
+
+fn main() {
+    let mut script = [0u8; 131072];
+    let n = io::read_full(STDIN_FILENO, &mut script);
+    scene::play(&script[..n]);
+}
