@@ -75,7 +75,7 @@ one-by-one t (k ∷ ks) =
 
 -- ---- a list of one event
 module _ (t e place : List ℕ) (sixteen : length e ≡ 16) where
-  same-lengths : listLengths t e place ≡ eventLengths t e place
+  pub same-lengths : listLengths t e place ≡ eventLengths t e place
   unfolding listLengths eventLengths listLength
   same-lengths =
       ap (λ (m : ℕ). tableLength (length t) && listLength m (length place)) sixteen

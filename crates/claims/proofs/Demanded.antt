@@ -32,19 +32,28 @@ module _ (n : ℕ) where
   pub start-shows : (c : ℕ) → c < length (emptyTable n) / 32 → circuitAt (emptyTable n) c ≡ empty
   start-shows c l = circuit-empty n c
 
+  -- whatever was run from it is shown by the table that was left
+  pub ran-shown : (ps : List Turn) (u : List ℕ) → Ran (emptyTable n) ps u → Shown (emptyTable n) (λ c. empty) ps u
+  ran-shown ps u = shown ps (emptyTable n) u (start-valid n) (λ c. empty) start-shows
+
+  pub ran-tells : (ps : List Turn) (u : List ℕ) → Ran (emptyTable n) ps u → (c : ℕ) → c < n → circuitAt u c ≡ history ps c
+  ran-tells ps u ran c l = ran-shown ps u ran .tells c (omega (arith, start-count))
+
+  pub ran-long : (ps : List Turn) (u : List ℕ) → Ran (emptyTable n) ps u → length u ≡ 32 * n
+  ran-long ps u ran = ran-shown ps u ran .as-long ∙ start-long
+
   module _ (lists : List EventList) where
     pub now : Shown (emptyTable n) (λ c. empty) (past (emptyTable n) lists) (tableAfter (emptyTable n) lists)
-    now =
-        shown (past (emptyTable n) lists) (emptyTable n) (tableAfter (emptyTable n) lists) (start-valid n) (λ c. empty) start-shows (past-ran lists (emptyTable n))
+    now = ran-shown (past (emptyTable n) lists) (tableAfter (emptyTable n) lists) (past-ran lists (emptyTable n))
 
     pub now-long : length (tableAfter (emptyTable n) lists) ≡ 32 * n
-    now-long = now .as-long ∙ start-long
+    now-long = ran-long (past (emptyTable n) lists) (tableAfter (emptyTable n) lists) (past-ran lists (emptyTable n))
 
     pub now-count : length (tableAfter (emptyTable n) lists) / 32 ≡ n
     now-count = omega (arith, now-long)
 
 pub history-tells : HistoryTells
-history-tells n lists c l = now n lists .tells c (omega (arith, start-count n))
+history-tells n lists = ran-tells n (past (emptyTable n) lists) (tableAfter (emptyTable n) lists) (past-ran lists (emptyTable n))
 
 -- ---- one turn more
 history-append : (ps qs : List Turn) (y : Circuit) (c : ℕ) → historyFrom y (ps ++ qs) c ≡ historyFrom (historyFrom y ps c) qs c
@@ -59,18 +68,25 @@ pub ran-split : (n : ℕ) (lists : List EventList) (ps : List Turn) → past (em
 ran-split n lists ps split =
     subst (λ (qs : List Turn). Ran (emptyTable n) qs (tableAfter (emptyTable n) lists)) split (past-ran lists (emptyTable n))
 
-pub demand-3-within : Demand3Within
-demand-3-within n lists before p later split new =
+-- turn p of whatever was run from the empty table
+pub ran-demand :
+    (n : ℕ) (before : List Turn) (p : Turn) (later : List Turn) (u : List ℕ) → Ran (emptyTable n) (before ++ p ∷ later) u
+    → NewSetUp n (history before) (asked p) → Answered n (history before) (history (before ++ p ∷ [])) (asked p) (p .answer)
+ran-demand n before p later u ran new =
     subst (λ (y : ℕ → Circuit). Answered n (history before) y (asked p) (p .answer)) (sym (history-then before p))
     (subst (λ (m : ℕ). NewSetUp m (history before) (asked p) → Answered m (history before) (λ c. afterTurn p c (history before c)) (asked p) (p .answer)) (start-count n)
-    (served-within (emptyTable n) (start-valid n) (λ c. empty) (start-shows n) before p later (tableAfter (emptyTable n) lists) (ran-split n lists (before ++ p ∷ later) split)) new)
+    (served-within (emptyTable n) (start-valid n) (λ c. empty) (start-shows n) before p later u ran) new)
+
+pub demand-3-within : Demand3Within
+demand-3-within n lists before p later split =
+    ran-demand n before p later (tableAfter (emptyTable n) lists) (ran-split n lists (before ++ p ∷ later) split)
 
 -- ---- the next list, of one event
 module _ (t e place : List ℕ) (sixteen : length e ≡ 16) where
   abbrev next : Turn
   next = record { event = e; answer = listAnswers t e place }
 
-  one-turn : listLengths t e place ≡ true → turns t (record { events = e; places = place }) ≡ next ∷ []
+  pub one-turn : listLengths t e place ≡ true → turns t (record { events = e; places = place }) ≡ next ∷ []
   unfolding turns listNumber
   one-turn h =
       ap (λ (b : Bool). cond (eqb (cond b 0 wrongLength) 0) (turnsTo e (listAnswers t e place) (length e / 16)) []) h
@@ -89,7 +105,7 @@ table-length t n long one many =
     and-both (eqb (length t % 32) 0) (leb 1 (circuits t) && leb (circuits t) 256) (eq-eqb (length t % 32) 0 (omega arith))
     (and-both (leb 1 (circuits t)) (leb (circuits t) 256) (le-leb 1 (circuits t) (omega arith)) (le-leb (circuits t) 256 (omega arith)))
 
-one-lengths : (t e place : List ℕ) → tableLength (length t) ≡ true → length e ≡ 16 → length place ≡ 16 → listLengths t e place ≡ true
+pub one-lengths : (t e place : List ℕ) → tableLength (length t) ≡ true → length e ≡ 16 → length place ≡ 16 → listLengths t e place ≡ true
 unfolding listLengths listLength
 one-lengths t e place right sixteen room =
     and-both (tableLength (length t)) (listLength (length e) (length place)) right (ap₂ listLength sixteen room)

@@ -17,6 +17,7 @@ use Rattle.rules.specs.Numbers.{wrongLength, causeOf}
 use Rattle.rules.specs.Answer.{anothers, answerOf}
 use Rattle.rules.specs.Run.{outcomeOf, effect, after, answered, answerRecord}
 use Rattle.rules.specs.Records.{circuitAt, eventAt, answerOctets, records, circuits, answerNumber, answerDetail}
+use Rattle.rules.proofs.Numbers.{refusal-high}
 use Rattle.route.specs.Entries.{eventLengths, eventNumber, eventTable, eventAnswer, listLengths, listNumber}
 use Rattle.route.proofs.Whole.{no-event, no-list}
 use Rattle.claims.specs.OneByOne.{ReturnsNumber, RefusalKeepsTable, RefusalAnswers, RefusalKeepsHistory, RefusedList}
@@ -83,6 +84,16 @@ module _ (t e place : List ℕ) where
     pub answer-then : eventAnswer t e place ≡ answerRecord records t e
     unfolding eventAnswer
     answer-then = ap (λ (b : Bool). cond b (answerRecord records t e) place) q
+
+-- 20 is returned at wrong lengths alone
+no-answer-20 : (t e : List ℕ) → answered records t e .number ≢ 20
+unfolding answered answerOf records
+no-answer-20 t e h =
+    by-refusal (circuitAt t) (circuits t) (eventAt e) (λ o. answerOf (circuitAt t) (circuits t) (eventAt e) o .number ≡ 20 → ⊥) (λ r z. omega (arith, refusal-high r))
+    (outcomeOf records t (eventAt e)) (omega arith) h
+
+pub lengths-wrong : (t e place : List ℕ) → eventLengths t e place ≡ true → eventNumber t e place ≢ 20
+lengths-wrong t e place q h = no-answer-20 t e (sym (number-then t e place q) ∙ h)
 
 pub returns-number : ReturnsNumber
 returns-number t e place h =
