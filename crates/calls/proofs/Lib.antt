@@ -1,0 +1,3 @@
+pub mod Run
+pub mod Demanded
+pub mod Possible
