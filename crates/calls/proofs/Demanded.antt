@@ -1,21 +1,20 @@
 -- History tells, and demand 3 of the next call.
 use Prim.Native.Nat.{ℕ}
-use mathlib.Core.Path.{_≡_, refl, sym, ap, ap₂, _∙_, subst}
+use mathlib.Core.Path.{_≡_, sym, ap, _∙_, subst}
 use mathlib.Core.Bool.{Bool, true, cond}
 use mathlib.Core.List.{List, [], _∷_, _++_}
 use lib.ListN.{length}
 use borrow.Author.Tests.{ne-eqb}
-use Rattle.rules.specs.Records.{tableLength, eventAt, emptyTable, eventSize, answerSize}
-use Rattle.route.specs.Entries.{listLengths, listNumber, listAnswers}
+use Rattle.rules.specs.Records.{eventAt, emptyTable, eventSize}
+use Rattle.route.specs.Entries.{listLengths}
 use Rattle.claims.specs.History.{Turn, history}
-use Rattle.claims.specs.Lists.{EventList, turns}
 use Rattle.claims.specs.Demand.{Answered}
 use Rattle.claims.proofs.Ran.{Ran}
-use Rattle.claims.proofs.Refused.{lengths-wrong}
+use Rattle.claims.proofs.Refused.{returned-not-20}
 use Rattle.claims.proofs.Alone.{same-lengths}
 use Rattle.claims.proofs.Demanded.{ran-tells, ran-long, ran-demand, one-turn, table-length, one-lengths}
-use Rattle.calls.specs.Calls.{Entry, list-entry, event-entry, Contract, Call, table, events, places, tableLeft, answers, heard, adds, Calls, more, HistoryTells, Demand3}
-use Rattle.calls.proofs.Run.{calls-ran}
+use Rattle.calls.specs.Calls.{Entry, list-entry, event-entry, Contract, Call, table, events, places, tableLeft, answers, heard, adds, more, HistoryTells, Demand3, Demand3Within}
+use Rattle.calls.proofs.Run.{heard-turns, calls-ran}
 
 pub history-tells : HistoryTells
 history-tells n u ps calls = ran-tells n ps u (calls-ran n u ps calls)
@@ -26,18 +25,17 @@ module _ (c : Call) (right : listLengths (table c) (events c) (places c) ≡ tru
   turn a = record { event = events c; answer = a }
 
   heard-once : adds c ≡ turn (answers c) ∷ []
-  unfolding turns
   heard-once = go (c .entry) (c .allowed)
     where
       go : (w : Entry) → Contract w (c .lifetimes) (c .lent) (c .number) (c .left) → heard w (c .number) (events c) (answers c) ≡ turn (answers c) ∷ []
       go list-entry p =
-          ap₂ (λ (k : ℕ) (a : List ℕ). heard list-entry k (events c) a) (p .0) (p .1 .1)
+          heard-turns (table c) (events c) (places c) (c .number) (tableLeft c) (answers c) (p .0) (p .1 .1)
           ∙ one-turn (table c) (events c) (places c) sixteen right ∙ ap (λ (a : List ℕ). turn a ∷ []) (sym (p .1 .1))
       go event-entry p =
           ap (λ (b : Bool). cond b [] (turn (answers c) ∷ []))
           (ne-eqb (c .number) 20
           (λ z.
-          lengths-wrong (table c) (events c) (places c) (sym (same-lengths (table c) (events c) (places c) sixteen) ∙ right) (sym (p .0) ∙ z)))
+          returned-not-20 (table c) (events c) (places c) (sym (same-lengths (table c) (events c) (places c) sixteen) ∙ right) (sym (p .0) ∙ z)))
 
 pub demand-3 : Demand3
 demand-3 n one many u ps calls c same sixteen room new =
@@ -47,3 +45,6 @@ demand-3 n one many u ps calls c same sixteen room new =
     let once = heard-once c right sixteen in
     subst (λ (qs : List Turn). Answered n (history ps) (history (ps ++ qs)) (eventAt (events c)) (answers c)) (sym once)
     (ran-demand n ps p [] (tableLeft c) (subst (λ (qs : List Turn). Ran (emptyTable n) (ps ++ qs) (tableLeft c)) once (calls-ran n (tableLeft c) (ps ++ adds c) (more u ps calls c same))) new)
+
+pub demand-3-within : Demand3Within
+demand-3-within n u before p later calls = ran-demand n before p later u (calls-ran n u (before ++ p ∷ later) calls)

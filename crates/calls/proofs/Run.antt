@@ -1,7 +1,7 @@
 -- What a call adds to the past was run over the table that it was lent.
 use Prim.Native.Nat.{ℕ}
-use mathlib.Core.Path.{_≡_, refl, sym, _∙_, subst}
-use mathlib.Core.List.{List, [], _∷_, _++_}
+use mathlib.Core.Path.{_≡_, refl, sym, ap₂, _∙_, subst}
+use mathlib.Core.List.{List, [], _∷_}
 use native.Mathlib.Omega.{arith}
 use lib.Dec.{eqb}
 use borrow.Author.Tests.{eqb-true, eqb-false}
@@ -9,7 +9,7 @@ use Rattle.octets.proofs.Tests.{by-test}
 use Rattle.rules.specs.Records.{emptyTable}
 use Rattle.route.specs.Entries.{eventNumber, eventTable, eventAnswer, listNumber, listTable, listAnswers}
 use Rattle.claims.specs.History.{Turn}
-use Rattle.claims.specs.Lists.{EventList, turns}
+use Rattle.claims.specs.Lists.{turns}
 use Rattle.claims.proofs.Ran.{Ran, ran-append}
 use Rattle.claims.proofs.Cut.{list-ran}
 use Rattle.claims.proofs.Refused.{lengths-right, table-then, answer-then, refusal-keeps-table}
@@ -17,9 +17,14 @@ use Rattle.calls.specs.Calls.{Entry, list-entry, event-entry, Contract, 
 
 -- number k, table u and answers w are what the contract says
 module _ (t es room : List ℕ) (k : ℕ) (u w : List ℕ) where
-  by-list : k ≡ listNumber t es room → u ≡ listTable t es room → w ≡ listAnswers t es room → Ran t (heard list-entry k es w) u
+  pub heard-turns : k ≡ listNumber t es room → w ≡ listAnswers t es room → heard list-entry k es w ≡ turns t (record { events = es; places = room })
   unfolding turns
-  by-list p q r = rw (p, q, r) (list-ran t (record { events = es; places = room }))
+  heard-turns p r = ap₂ (λ (m : ℕ) (a : List ℕ). heard list-entry m es a) p r
+
+  by-list : k ≡ listNumber t es room → u ≡ listTable t es room → w ≡ listAnswers t es room → Ran t (heard list-entry k es w) u
+  by-list p q r =
+      subst (λ (s : List ℕ). Ran t (heard list-entry k es w) s) (sym q)
+      (subst (λ (ps : List Turn). Ran t ps (listTable t es room)) (sym (heard-turns p r)) (list-ran t (record { events = es; places = room })))
 
   by-event : k ≡ eventNumber t es room → u ≡ eventTable t es room → w ≡ eventAnswer t es room → Ran t (heard event-entry k es w) u
   by-event p q r =

@@ -12,7 +12,7 @@ use denote.Triple.Clauses.{AtExit}
 use borrow.Fn.Kinds.{Out, Dens, resT, endedOf}
 use Rattle.rules.specs.Numbers.{done, wrongLength}
 use Rattle.rules.specs.Records.{circuitAt, eventAt, mostCircuits, eventSize, answerSize, emptyTable}
-use Rattle.claims.specs.History.{Turn, history}
+use Rattle.claims.specs.History.{Turn, asked, history}
 use Rattle.claims.specs.Lists.{turnsTo}
 use Rattle.claims.specs.Demand.{NewSetUp, Answered}
 use Rattle.naustvri.proofs.naustvri_list.Kinds as kinds
@@ -23,8 +23,8 @@ use Rattle.naustvri.proofs.naustvri_event.Reads as event
 pub data Entry : Type 0 where  -- the two entries that take events: naustvri_list and naustvri_event
   list-entry event-entry : Entry
 
--- the contract of each as the prover reads it, over what is lent, what is returned and what is left. Both are lent a table, events and
--- places for the answers, and return a number
+-- the contract of each as the prover reads it, over what is lent, returned and left. Both are lent a table, events and places for the
+-- answers, and return a number
 abbrev pub Contract : Entry → Out 3 kinds.ps kinds.r
 Contract list-entry = list.Post
 Contract event-entry = event.Post
@@ -32,10 +32,10 @@ Contract event-entry = event.Post
 -- a call that the contract of its entry allows
 pub record Call : Type 0 where
   pub entry : Entry
-  pub lifetimes : Lfts 3
-  pub lent : Dens lifetimes kinds.ps
-  pub number : resT kinds.r lifetimes .Denot
-  pub left : AtExit (endedOf 3 kinds.ps kinds.r) lifetimes
+  pub lifetimes : Lfts 3  -- for how long each of the three buffers is lent
+  pub lent : Dens lifetimes kinds.ps  -- the buffers as they are lent
+  pub number : resT kinds.r lifetimes .Denot  -- the number that comes back
+  pub left : AtExit (endedOf 3 kinds.ps kinds.r) lifetimes  -- the buffers as they are left
   pub allowed : Contract entry lifetimes lent number left
 
 module _ (c : Call) where
@@ -71,7 +71,8 @@ pub data Calls (n : ℕ) : List ℕ → List Turn → Type 0 where
   more : (u : List ℕ) (ps : List Turn) → Calls n u ps → (c : Call) → table c ≡ u → Calls n (tableLeft c) (ps ++ adds c)
 
 -- ---- what the customer buys
--- HISTORY TELLS: "who holds and who has reserved each circuit follows from the past events and answers alone"
+-- HISTORY TELLS: "who holds and who has reserved each circuit follows from the past events and answers alone": what the table that the
+-- last call left shows of a circuit, under which mark and since which clock, is what the history says
 abbrev pub HistoryTells : Type 0
 HistoryTells = (n : ℕ) (u : List ℕ) (ps : List Turn) → Calls n u ps → (c : ℕ) → c < n → circuitAt u c ≡ history ps c
 
@@ -86,7 +87,14 @@ Demand3 =
     → NewSetUp n (history ps) (eventAt (events next))
     → Answered n (history ps) (history (ps ++ adds next)) (eventAt (events next)) (answers next)
 
--- the claims are not empty: either entry can be called with any octets
+-- the same of a set-up at any place of any of the calls: before and later are the rest of the past
+abbrev pub Demand3Within : Type 0
+Demand3Within =
+    (n : ℕ) (u : List ℕ) (before : List Turn) (p : Turn) (later : List Turn) → Calls n u (before ++ p ∷ later)
+    → NewSetUp n (history before) (asked p)
+    → Answered n (history before) (history (before ++ p ∷ [])) (asked p) (p .answer)
+
+-- a call of entry w that is lent table t, events es and places room
 pub record CallWith (w : Entry) (t es room : List ℕ) : Type 0 where
   pub call : Call
   pub entry : call .entry ≡ w
@@ -94,5 +102,6 @@ pub record CallWith (w : Entry) (t es room : List ℕ) : Type 0 where
   pub lends-events : events call ≡ es
   pub lends-places : places call ≡ room
 
+-- the contracts allow such a call whatever the octets are, so the claims above are not empty
 abbrev pub AnyOctets : Type 0
 AnyOctets = (w : Entry) (t es room : List ℕ) → CallWith w t es room

@@ -85,15 +85,15 @@ module _ (t e place : List ℕ) where
     unfolding eventAnswer
     answer-then = ap (λ (b : Bool). cond b (answerRecord records t e) place) q
 
--- 20 is returned at wrong lengths alone
-no-answer-20 : (t e : List ℕ) → answered records t e .number ≢ 20
+-- no event is answered by 20, so it comes back at wrong lengths alone
+answered-not-20 : (t e : List ℕ) → answered records t e .number ≢ 20
 unfolding answered answerOf records
-no-answer-20 t e h =
+answered-not-20 t e h =
     by-refusal (circuitAt t) (circuits t) (eventAt e) (λ o. answerOf (circuitAt t) (circuits t) (eventAt e) o .number ≡ 20 → ⊥) (λ r z. omega (arith, refusal-high r))
     (outcomeOf records t (eventAt e)) (omega arith) h
 
-pub lengths-wrong : (t e place : List ℕ) → eventLengths t e place ≡ true → eventNumber t e place ≢ 20
-lengths-wrong t e place q h = no-answer-20 t e (sym (number-then t e place q) ∙ h)
+pub returned-not-20 : (t e place : List ℕ) → eventLengths t e place ≡ true → eventNumber t e place ≢ 20
+returned-not-20 t e place q h = answered-not-20 t e (sym (number-then t e place q) ∙ h)
 
 pub returns-number : ReturnsNumber
 returns-number t e place h =
