@@ -10,12 +10,14 @@ use Rattle.calls.specs.Calls.{Entry, list-entry, event-entry, Contract, 
 abbrev buffer : List ℕ → RefT (List ℕ)  -- a lent buffer with these octets
 buffer octets = record { ptr = (0, 0); name = 0; now = octets }
 
-abbrev lifetimes : Lfts 3
+abbrev lifetimes : Lfts 3  -- of the three buffers; the contracts ask nothing of them
 lifetimes = ([], ([], ([], tt)))
 
--- what the contract of entry w says of number k, table u and answers a, where t, es and room are lent
+-- table t, events es and places room are lent: number k may come back, and table u and answers a be left, if the contract allows it
 module _ (w : Entry) (t es room : List ℕ) where
-  with-result : (k : ℕ) (u a : List ℕ) → Contract w lifetimes (buffer t, (buffer es, (buffer room, tt))) k (buffer u, (buffer es, (buffer a, tt))) → CallWith w t es room
+  with-result :
+      (k : ℕ) (u a : List ℕ)
+      → Contract w lifetimes (buffer t, (buffer es, (buffer room, tt))) k (buffer u, (buffer es, (buffer a, tt))) → CallWith w t es room
   with-result k u a allowed =
       record {
         call =

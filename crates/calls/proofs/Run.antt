@@ -1,4 +1,4 @@
--- What a call adds to the past was run over the table that it was lent.
+-- What a call adds to the past was run over the table that it was lent; so what calls one after another add was run over the empty table.
 use Prim.Native.Nat.{ℕ}
 use mathlib.Core.Path.{_≡_, refl, sym, ap₂, _∙_, subst}
 use mathlib.Core.List.{List, [], _∷_}
@@ -6,6 +6,7 @@ use native.Mathlib.Omega.{arith}
 use lib.Dec.{eqb}
 use borrow.Author.Tests.{eqb-true, eqb-false}
 use Rattle.octets.proofs.Tests.{by-test}
+use Rattle.rules.specs.Numbers.{wrongLength}
 use Rattle.rules.specs.Records.{emptyTable}
 use Rattle.route.specs.Entries.{eventNumber, eventTable, eventAnswer, listNumber, listTable, listAnswers}
 use Rattle.claims.specs.History.{Turn}
@@ -15,7 +16,7 @@ use Rattle.claims.proofs.Cut.{list-ran}
 use Rattle.claims.proofs.Refused.{lengths-right, table-then, answer-then, refusal-keeps-table}
 use Rattle.calls.specs.Calls.{Entry, list-entry, event-entry, Contract, Call, table, events, places, tableLeft, answers, heard, adds, Calls, none, more}
 
--- number k, table u and answers w are what the contract says
+-- one call: table t, events es and places room were lent; number k came back, table u and answers w were left
 module _ (t es room : List ℕ) (k : ℕ) (u w : List ℕ) where
   pub heard-turns : k ≡ listNumber t es room → w ≡ listAnswers t es room → heard list-entry k es w ≡ turns t (record { events = es; places = room })
   unfolding turns
@@ -28,10 +29,10 @@ module _ (t es room : List ℕ) (k : ℕ) (u w : List ℕ) where
 
   by-event : k ≡ eventNumber t es room → u ≡ eventTable t es room → w ≡ eventAnswer t es room → Ran t (heard event-entry k es w) u
   by-event p q r =
-      by-test (λ (ps : List Turn). Ran t ps u) (eqb k 20) [] (record { event = es; answer = w } ∷ [])
-      (λ h. let twenty = eqb-true k 20 h in sym (q ∙ refusal-keeps-table t es room (omega arith)))
+      by-test (λ (ps : List Turn). Ran t ps u) (eqb k wrongLength) [] (record { event = es; answer = w } ∷ [])
+      (λ h. let twenty = eqb-true k wrongLength h in sym (q ∙ refusal-keeps-table t es room (omega arith)))
       (λ h.
-      let right = lengths-right t es room (λ z. eqb-false k 20 h (p ∙ z)) in
+      let right = lengths-right t es room (λ z. eqb-false k wrongLength h (p ∙ z)) in
       (r ∙ answer-then t es room right, sym (q ∙ table-then t es room right)))
 
 pub call-ran : (c : Call) → Ran (table c) (adds c) (tableLeft c)

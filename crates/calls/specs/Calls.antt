@@ -23,8 +23,8 @@ use Rattle.naustvri.proofs.naustvri_event.Reads as event
 pub data Entry : Type 0 where  -- the two entries that take events: naustvri_list and naustvri_event
   list-entry event-entry : Entry
 
--- the contract of each as the prover reads it, over what is lent, returned and left. Both are lent a table, events and places for the
--- answers, and return a number
+-- the contract of each as the prover reads it, over what is lent, what comes back and what is left; both are lent a table, events and
+-- places for the answers, and a number comes back
 abbrev pub Contract : Entry → Out 3 kinds.ps kinds.r
 Contract list-entry = list.Post
 Contract event-entry = event.Post
@@ -55,8 +55,8 @@ module _ (c : Call) where
   answers = now (c .left .1 .1 .0)
 
 -- ---- calls one after another
--- what is heard where this number came back: by a list each event with the answer at its place, if the number is 0; by an event that
--- event with its answer, unless the number is 20; nothing else
+-- what is heard of a call that returned this number and left these answers: of a list, if it returned 0, each event with the answer at
+-- its place; of an event, unless it returned 20, that event with its answer; else nothing
 abbrev pub heard : Entry → ℕ → List ℕ → List ℕ → List Turn
 heard list-entry number events answers = cond (eqb number done) (turnsTo events answers (length events / eventSize)) []
 heard event-entry number events answers = cond (eqb number wrongLength) [] (record { event = events; answer = answers } ∷ [])

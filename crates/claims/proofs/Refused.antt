@@ -89,7 +89,8 @@ module _ (t e place : List ℕ) where
 answered-not-20 : (t e : List ℕ) → answered records t e .number ≢ 20
 unfolding answered answerOf records
 answered-not-20 t e h =
-    by-refusal (circuitAt t) (circuits t) (eventAt e) (λ o. answerOf (circuitAt t) (circuits t) (eventAt e) o .number ≡ 20 → ⊥) (λ r z. omega (arith, refusal-high r))
+    let a = answerOf (circuitAt t) (circuits t) (eventAt e) in
+    by-refusal (circuitAt t) (circuits t) (eventAt e) (λ o. a o .number ≡ 20 → ⊥) (λ r z. omega (arith, refusal-high r))
     (outcomeOf records t (eventAt e)) (omega arith) h
 
 pub returned-not-20 : (t e place : List ℕ) → eventLengths t e place ≡ true → eventNumber t e place ≢ 20
