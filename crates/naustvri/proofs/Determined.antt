@@ -2,6 +2,8 @@
 use mathlib.Core.Path.{sym, _∙_}
 use denote.Ref.{now}
 use Rattle.octets.proofs.Determined.{OneResult, OneExit}
+use Rattle.naustvri.proofs.naustvri_version.Kinds as version-kinds
+use Rattle.naustvri.proofs.naustvri_version.Reads as version
 use Rattle.naustvri.proofs.naustvri_read_precedence.Kinds as read-precedence-kinds
 use Rattle.naustvri.proofs.naustvri_read_precedence.Reads as read-precedence
 use Rattle.naustvri.proofs.naustvri_write_precedence.Kinds as write-precedence-kinds
@@ -18,6 +20,9 @@ use Rattle.naustvri.proofs.naustvri_list.Kinds as list-kinds
 use Rattle.naustvri.proofs.naustvri_list.Reads as list
 use Rattle.naustvri.proofs.naustvri_lamps.Kinds as lamps-kinds
 use Rattle.naustvri.proofs.naustvri_lamps.Reads as lamps
+
+pub version-result : OneResult 0 version-kinds.ps version-kinds.r version.Post
+version-result κs a x y e f p q = p ∙ sym q
 
 pub read-precedence-result : OneResult 1 read-precedence-kinds.ps read-precedence-kinds.r read-precedence.Post
 read-precedence-result κs a x y e f p q = p ∙ sym q

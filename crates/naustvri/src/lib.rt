@@ -5,6 +5,19 @@ ghost use Rattle.fields.specs.Precedence as precedence;
 ghost use Rattle.fields.specs.Reference as reference;
 ghost use Rattle.lamps.specs.Lamps.{lampMap};
 ghost use Rattle.route.specs.Entries.{eventNumber, eventTable, eventAnswer, listNumber, listTable, listAnswers};
+ghost use Rattle.naustvri.specs.Version.{version};
+
+// The version's three parts, as in the header.
+const MAJOR: u32 = 1;
+const MINOR: u32 = 0;
+const PATCH: u32 = 0;
+
+#[no_mangle]
+pub extern "C" fn naustvri_version() -> u32
+    ensures { λ r. ⌜ r ≡ version ⌝ }
+{
+    10000 * MAJOR + 100 * MINOR + PATCH
+}
 
 #[no_mangle]
 pub extern "C" fn naustvri_read_precedence(octets: &[u8]) -> fields::precedence::Reading
