@@ -19,7 +19,7 @@ static const struct side {
     uint8_t (*check)(const uint8_t *, size_t);
     uint8_t (*event)(uint8_t *, size_t, const uint8_t *, size_t, uint8_t *, size_t);
     uint8_t (*list)(uint8_t *, size_t, const uint8_t *, size_t, uint8_t *, size_t);
-    struct naustvri_lamps (*lamps)(const uint8_t *, size_t);
+    struct naustvri_lamps_reading (*lamps)(const uint8_t *, size_t);
 } sides[] = {
     {"library", naustvri_read_precedence, naustvri_write_precedence, naustvri_read_reference, naustvri_write_reference, naustvri_check,
      naustvri_event, naustvri_list, naustvri_lamps},
@@ -74,7 +74,7 @@ static void bench_check(const char *what, const uint8_t *table, size_t circuits)
 
 static void bench_lamps(const char *what, const uint8_t *table, size_t circuits)
 {
-    struct naustvri_lamps lamps[SIDES];
+    struct naustvri_lamps_reading lamps[SIDES];
     for EACH_SIDE (s) {
         COUNT(lamps[s - sides] = s->lamps(table, circuits * NAUSTVRI_CIRCUIT_SIZE));
         counted(what, circuits, s, 1);

@@ -164,9 +164,9 @@ uint8_t plain_check(const uint8_t *table, size_t table_len)
     return valid(table, table_len / NAUSTVRI_CIRCUIT_SIZE) ? NAUSTVRI_DONE : NAUSTVRI_TABLE_NOT_VALID;
 }
 
-struct naustvri_lamps plain_lamps(const uint8_t *table, size_t table_len)
+struct naustvri_lamps_reading plain_lamps(const uint8_t *table, size_t table_len)
 {
-    struct naustvri_lamps lamps = {0};
+    struct naustvri_lamps_reading lamps = {0};
     lamps.number = plain_check(table, table_len);
     if (lamps.number != NAUSTVRI_DONE)
         return lamps;

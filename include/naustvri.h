@@ -1,10 +1,20 @@
 /* Naustvri: which circuit of a trunk route a call with a precedence gets, who loses one, and what the refused party hears.
  *
- * Every function takes any octets of any length, ends, and allocates nothing. It reads and writes the buffers lent to it and
- * nothing else. A length counts octets.
+ * Every function takes any octets of any length, ends, allocates nothing and keeps nothing from one call to the next. It reads and
+ * writes the buffers lent to it and nothing else. A length counts octets.
  *
- * Overlap: a buffer that a function writes (any pointer that is not const) shares no octet with another buffer of the same call,
- * and no other thread uses it meanwhile. Nothing tests this. A pointer is never null, also where its length is 0.
+ * Duties of the caller. No function tests them:
+ *
+ *   Pointers:  The caller must lend, at each pointer, as many octets as the length beside it says. Where the length is 0 the pointer
+ *              is not used, and may be null, as data() of an empty vector in C++ may be.
+ *   Overlap:   The caller must not lend a buffer that the function writes (its pointer is not const) where it shares an octet with
+ *              another buffer of the same call.
+ *   Threads:   The caller must see to it that no other thread uses a buffer while a function writes it, and that none writes a buffer
+ *              while a function reads it. Calls on different buffers may run at the same time.
+ *   Alignment: The caller may lend a buffer at any address.
+ *   Padding:   The caller must compare two structs given back member by member, never by memcmp: between their members lie octets of
+ *              any value.
+ *   Version:   The caller must link the archive that the header belongs to: naustvri_version() == NAUSTVRI_VERSION.
  *
  * Clocks and places in circuits, events and answers have their low octet first. Precedence, domain and reference stand in them as in
  * their messages: write them by naustvri_write_precedence and naustvri_write_reference. */
@@ -14,113 +24,125 @@
 #include <stddef.h>
 #include <stdint.h>
 
+/* The version of this header: one number that grows, and its three parts. The major part grows where a host that ignores the change
+ * would be wrong, the minor part with any other change that a host sees. */
+#define NAUSTVRI_VERSION_MAJOR 1
+#define NAUSTVRI_VERSION_MINOR 0
+#define NAUSTVRI_VERSION_PATCH 0
+#define NAUSTVRI_VERSION (NAUSTVRI_VERSION_MAJOR * 10000u + NAUSTVRI_VERSION_MINOR * 100u + NAUSTVRI_VERSION_PATCH)
+
 #ifdef __cplusplus
 extern "C" {
 #endif
 
-/* The numbers given back, in the order in which refusals are tried. */
-enum naustvri_number {
-    NAUSTVRI_DONE = 0,                     /* list carried out, table valid, or field read or written */
-    NAUSTVRI_SEIZED = 1,                   /* set-up: nobody lost a circuit */
-    NAUSTVRI_SEIZED_WITH_LOSS = 2,         /* set-up: a holder or a reservation was lost */
-    NAUSTVRI_RESERVED = 3,                 /* look-ahead: nobody lost a reservation */
-    NAUSTVRI_RESERVED_WITH_LOSS = 4,       /* look-ahead: another's reservation was lost */
-    NAUSTVRI_RELEASED = 5,
-    NAUSTVRI_CANCELLED = 6,
-    NAUSTVRI_CLOCK_TAKEN = 7,
-    NAUSTVRI_WRONG_LENGTH = 20,            /* nothing is written */
-    NAUSTVRI_MALFORMED = 22,               /* event or field */
-    NAUSTVRI_TABLE_NOT_VALID = 21,
-    NAUSTVRI_LOOK_AHEAD_NOT_ALLOWED = 23,  /* its LFB indicator is not "allowed" */
-    NAUSTVRI_LOOK_AHEAD_BY_ROUTINE = 24,
-    NAUSTVRI_ALREADY_PRESENT = 25,         /* set-up by a holder; look-ahead by a holder or a reserver */
-    NAUSTVRI_RESERVATION_DIFFERS = 26,     /* set-up whose level or domain is not its reservation's */
-    NAUSTVRI_HOLDER_NOT_LOWER = 28,        /* set-up on its reservation, holder there not strictly lower in the same domain */
-    NAUSTVRI_NOT_PRESENT = 27,             /* release without a holder, cancel without a reservation */
-    NAUSTVRI_NO_CIRCUIT_ROUTINE = 30,      /* set-up by ROUTINE, no circuit */
-    NAUSTVRI_NO_CIRCUIT_PRECEDENCE = 31,   /* set-up by another level, no circuit */
-    NAUSTVRI_NO_CIRCUIT_LOOK_AHEAD = 32
-};
+/* The tables below have a row for each value: its constant, the value, and its meaning in words. From them come the constants and, at
+ * the end, the functions that give a value's name and meaning. A host may go through them too, by two macros of its own: `first` takes
+ * the first row and `next` every other. */
 
-/* Causes of Q.850: for the asking party in an answer, and for the two sides of a holder that lost its circuit. */
-enum naustvri_cause {
-    NAUSTVRI_CAUSE_NONE = 0,
-    NAUSTVRI_CAUSE_PREEMPTION = 8,                 /* the host gives it to the lost holder's other side */
-    NAUSTVRI_CAUSE_PREEMPTION_CIRCUIT_REUSE = 9,   /* the host gives it on the circuit that the answer names */
-    NAUSTVRI_CAUSE_NO_CIRCUIT = 34,                /* with number 30 */
-    NAUSTVRI_CAUSE_PRECEDENCE_CALL_BLOCKED = 46    /* with number 31 */
-};
+/* The numbers given back, in the order in which refusals are tried. At 20 nothing is written. */
+#define NAUSTVRI_NUMBERS(first, next) \
+    first(NAUSTVRI_DONE, 0, "list carried out, table valid, or field read or written") \
+    next(NAUSTVRI_SEIZED, 1, "the call holds the circuit, nobody lost one") \
+    next(NAUSTVRI_SEIZED_WITH_LOSS, 2, "the call holds the circuit; a holder, a reservation or both lost it") \
+    next(NAUSTVRI_RESERVED, 3, "the circuit is reserved, nobody lost a reservation") \
+    next(NAUSTVRI_RESERVED_WITH_LOSS, 4, "the circuit is reserved, another's reservation was lost") \
+    next(NAUSTVRI_RELEASED, 5, "the holder is gone") \
+    next(NAUSTVRI_CANCELLED, 6, "the reservation is gone, a holder stays") \
+    next(NAUSTVRI_CLOCK_TAKEN, 7, "the clock was looked at") \
+    next(NAUSTVRI_WRONG_LENGTH, 20, "a length is wrong") \
+    next(NAUSTVRI_MALFORMED, 22, "the event or field is malformed") \
+    next(NAUSTVRI_TABLE_NOT_VALID, 21, "the table is not valid") \
+    next(NAUSTVRI_LOOK_AHEAD_NOT_ALLOWED, 23, "a look-ahead whose LFB is not \"allowed\"") \
+    next(NAUSTVRI_LOOK_AHEAD_BY_ROUTINE, 24, "a look-ahead by ROUTINE") \
+    next(NAUSTVRI_ALREADY_PRESENT, 25, "set-up by a call that holds a circuit; look-ahead by one that holds or has reserved one") \
+    next(NAUSTVRI_RESERVATION_DIFFERS, 26, "set-up whose level or domain is not its reservation's") \
+    next(NAUSTVRI_HOLDER_NOT_LOWER, 28, "set-up on its reservation, holder there not strictly lower in the same domain") \
+    next(NAUSTVRI_NOT_PRESENT, 27, "release without a holder, cancel without a reservation") \
+    next(NAUSTVRI_NO_CIRCUIT_ROUTINE, 30, "set-up by ROUTINE, no circuit free") \
+    next(NAUSTVRI_NO_CIRCUIT_PRECEDENCE, 31, "set-up by a higher level, no circuit free or takeable") \
+    next(NAUSTVRI_NO_CIRCUIT_LOOK_AHEAD, 32, "look-ahead, no circuit free or takeable")
+
+/* Causes of Q.850: for the asking party in an answer (34 with number 30, 46 with 31), and those that the host gives to the two sides of
+ * a holder that lost its circuit. */
+#define NAUSTVRI_CAUSES(first, next) \
+    first(NAUSTVRI_CAUSE_NONE, 0, "none") \
+    next(NAUSTVRI_CAUSE_PREEMPTION, 8, "preemption, on the other side of the call that lost its circuit") \
+    next(NAUSTVRI_CAUSE_PREEMPTION_CIRCUIT_REUSE, 9, "preemption, on the circuit that was lost, which is used again") \
+    next(NAUSTVRI_CAUSE_NO_CIRCUIT, 34, "no circuit available, for a ROUTINE call") \
+    next(NAUSTVRI_CAUSE_PRECEDENCE_CALL_BLOCKED, 46, "precedence call blocked, for a higher level")
 
 /* Precedence levels: 0 is the highest. */
-enum naustvri_level {
-    NAUSTVRI_FLASH_OVERRIDE = 0,
-    NAUSTVRI_FLASH = 1,
-    NAUSTVRI_IMMEDIATE = 2,
-    NAUSTVRI_PRIORITY = 3,
-    NAUSTVRI_ROUTINE = 4
-};
+#define NAUSTVRI_LEVELS(first, next) \
+    first(NAUSTVRI_FLASH_OVERRIDE, 0, "FLASH OVERRIDE") \
+    next(NAUSTVRI_FLASH, 1, "FLASH") \
+    next(NAUSTVRI_IMMEDIATE, 2, "IMMEDIATE") \
+    next(NAUSTVRI_PRIORITY, 3, "PRIORITY") \
+    next(NAUSTVRI_ROUTINE, 4, "ROUTINE")
 
 /* The look-ahead (LFB) indicator. */
-enum naustvri_lfb {
-    NAUSTVRI_LFB_ALLOWED = 0,
-    NAUSTVRI_LFB_PATH_RESERVED = 1,
-    NAUSTVRI_LFB_NOT_ALLOWED = 2
-};
+#define NAUSTVRI_LFBS(first, next) \
+    first(NAUSTVRI_LFB_ALLOWED, 0, "allowed") \
+    next(NAUSTVRI_LFB_PATH_RESERVED, 1, "path reserved") \
+    next(NAUSTVRI_LFB_NOT_ALLOWED, 2, "not allowed")
 
 /* The kind of an event. */
-enum naustvri_kind {
-    NAUSTVRI_SET_UP = 1,
-    NAUSTVRI_RELEASE = 2,
-    NAUSTVRI_LOOK_AHEAD = 3,
-    NAUSTVRI_CANCEL = 4,
-    NAUSTVRI_CLOCK = 5
-};
+#define NAUSTVRI_KINDS(first, next) \
+    first(NAUSTVRI_SET_UP, 1, "set-up") \
+    next(NAUSTVRI_RELEASE, 2, "release") \
+    next(NAUSTVRI_LOOK_AHEAD, 3, "look-ahead") \
+    next(NAUSTVRI_CANCEL, 4, "cancel") \
+    next(NAUSTVRI_CLOCK, 5, "clock")
 
-/* Sizes in octets, and limits. */
-enum naustvri_size {
-    NAUSTVRI_PRECEDENCE_SIZE = 6,
-    NAUSTVRI_DOMAIN_SIZE = 5,
-    NAUSTVRI_REFERENCE_SIZE = 5,
-    NAUSTVRI_CIRCUIT_SIZE = 32,
-    NAUSTVRI_EVENT_SIZE = 16,
-    NAUSTVRI_ANSWER_SIZE = 16,
-    NAUSTVRI_CIRCUITS_MOST = 256,   /* a table has 1 to 256 circuits */
-    NAUSTVRI_EVENTS_MOST = 4096,    /* a list has 0 to 4,096 events */
-    NAUSTVRI_RESERVATION_STEPS = 3000 /* a reservation of this age or more, in steps of 10 ms, goes at a clock event */
-};
+/* No comma follows the last constant, as C89 has it. */
+#define NAUSTVRI_FIRST_CONSTANT(name, value, meaning) name = value
+#define NAUSTVRI_NEXT_CONSTANT(name, value, meaning) , name = value
+enum naustvri_number { NAUSTVRI_NUMBERS(NAUSTVRI_FIRST_CONSTANT, NAUSTVRI_NEXT_CONSTANT) };
+enum naustvri_cause { NAUSTVRI_CAUSES(NAUSTVRI_FIRST_CONSTANT, NAUSTVRI_NEXT_CONSTANT) };
+enum naustvri_level { NAUSTVRI_LEVELS(NAUSTVRI_FIRST_CONSTANT, NAUSTVRI_NEXT_CONSTANT) };
+enum naustvri_lfb { NAUSTVRI_LFBS(NAUSTVRI_FIRST_CONSTANT, NAUSTVRI_NEXT_CONSTANT) };
+enum naustvri_kind { NAUSTVRI_KINDS(NAUSTVRI_FIRST_CONSTANT, NAUSTVRI_NEXT_CONSTANT) };
+#undef NAUSTVRI_FIRST_CONSTANT
+#undef NAUSTVRI_NEXT_CONSTANT
+
+/* Sizes in octets. */
+#define NAUSTVRI_PRECEDENCE_SIZE 6
+#define NAUSTVRI_DOMAIN_SIZE 5
+#define NAUSTVRI_REFERENCE_SIZE 5
+#define NAUSTVRI_CIRCUIT_SIZE 32
+#define NAUSTVRI_EVENT_SIZE 16
+#define NAUSTVRI_ANSWER_SIZE 16
+
+/* Limits. */
+#define NAUSTVRI_CIRCUITS_MOST 256      /* a table has 1 to 256 circuits */
+#define NAUSTVRI_EVENTS_MOST 4096       /* a list has 0 to 4,096 events */
+#define NAUSTVRI_RESERVATION_STEPS 3000 /* a reservation of this age or more, in steps of 10 ms, goes at a clock event */
 
 /* A circuit, 32 octets: where each field stands. A part whose flag is 0 is all zero. */
-enum naustvri_circuit_offset {
-    NAUSTVRI_CIRCUIT_HELD = 0,                     /* flag of the holder's part, octets 0 to 11 */
-    NAUSTVRI_CIRCUIT_HOLDER_LEVEL = 1,
-    NAUSTVRI_CIRCUIT_HOLDER_DOMAIN = 2,            /* octets 2 to 6 of the precedence parameter */
-    NAUSTVRI_CIRCUIT_HOLDER_REFERENCE = 7,
-    NAUSTVRI_CIRCUIT_RESERVED = 12,                /* flag of the reservation's part, octets 12 to 27 */
-    NAUSTVRI_CIRCUIT_RESERVATION_LEVEL = 13,
-    NAUSTVRI_CIRCUIT_RESERVATION_DOMAIN = 14,
-    NAUSTVRI_CIRCUIT_RESERVATION_REFERENCE = 19,
-    NAUSTVRI_CIRCUIT_RESERVATION_CLOCK = 24,       /* 4 octets: the clock at reservation */
-    NAUSTVRI_CIRCUIT_ZERO = 28                     /* 4 octets, zero */
-};
+#define NAUSTVRI_CIRCUIT_HELD 0                   /* flag of the holder's part, octets 0 to 11 */
+#define NAUSTVRI_CIRCUIT_HOLDER_LEVEL 1
+#define NAUSTVRI_CIRCUIT_HOLDER_DOMAIN 2          /* octets 2 to 6 of the precedence parameter */
+#define NAUSTVRI_CIRCUIT_HOLDER_REFERENCE 7
+#define NAUSTVRI_CIRCUIT_RESERVED 12              /* flag of the reservation's part, octets 12 to 27 */
+#define NAUSTVRI_CIRCUIT_RESERVATION_LEVEL 13
+#define NAUSTVRI_CIRCUIT_RESERVATION_DOMAIN 14
+#define NAUSTVRI_CIRCUIT_RESERVATION_REFERENCE 19
+#define NAUSTVRI_CIRCUIT_RESERVATION_CLOCK 24     /* 4 octets: the clock at reservation */
+#define NAUSTVRI_CIRCUIT_ZERO 28                  /* 4 octets, zero */
 
 /* An event, 16 octets. */
-enum naustvri_event_offset {
-    NAUSTVRI_EVENT_KIND = 0,
-    NAUSTVRI_EVENT_PRECEDENCE = 1,  /* zero, spare bits too, in a release, a cancel and a clock event */
-    NAUSTVRI_EVENT_REFERENCE = 7,   /* zero, spare bits too, in a clock event */
-    NAUSTVRI_EVENT_CLOCK = 12       /* 4 octets, steps of 10 ms: read in a look-ahead and a clock event */
-};
+#define NAUSTVRI_EVENT_KIND 0
+#define NAUSTVRI_EVENT_PRECEDENCE 1 /* zero, spare bits too, in a release, a cancel and a clock event */
+#define NAUSTVRI_EVENT_REFERENCE 7  /* zero, spare bits too, in a clock event */
+#define NAUSTVRI_EVENT_CLOCK 12     /* 4 octets, steps of 10 ms: read in a look-ahead and a clock event */
 
 /* An answer, 16 octets. */
-enum naustvri_answer_offset {
-    NAUSTVRI_ANSWER_NUMBER = 0,
-    NAUSTVRI_ANSWER_CAUSE = 1,
-    NAUSTVRI_ANSWER_PLACE = 2,                     /* 2 octets: the circuit; of a clock event how many reservations it removed */
-    NAUSTVRI_ANSWER_CALL_LOST = 4,                 /* a holder lost its circuit: filled, as all below, at 2 and 4 alone */
-    NAUSTVRI_ANSWER_LOST_CALL = 5,                 /* its call reference */
-    NAUSTVRI_ANSWER_RESERVATION_LOST = 10,         /* a reservation was lost */
-    NAUSTVRI_ANSWER_LOST_RESERVATION = 11          /* its call reference */
-};
+#define NAUSTVRI_ANSWER_NUMBER 0
+#define NAUSTVRI_ANSWER_CAUSE 1
+#define NAUSTVRI_ANSWER_PLACE 2             /* 2 octets: the circuit; of a clock event how many reservations it removed */
+#define NAUSTVRI_ANSWER_CALL_LOST 4         /* a holder lost its circuit: filled, as all below, at 2 and 4 alone */
+#define NAUSTVRI_ANSWER_LOST_CALL 5         /* its call reference */
+#define NAUSTVRI_ANSWER_RESERVATION_LOST 10 /* a reservation was lost */
+#define NAUSTVRI_ANSWER_LOST_RESERVATION 11 /* its call reference */
 
 /* ANSWER_PLACE where there is none. */
 #define NAUSTVRI_NO_PLACE 65535
@@ -150,11 +172,14 @@ struct naustvri_reference_reading {
 };
 
 /* Four words of 64 lamps: circuit 64 * j + i is bit i of words[j], lit where it is free, dark past the table's end. */
-struct naustvri_lamps {
+struct naustvri_lamps_reading {
     uint8_t number;
     uint16_t lit;       /* how many are lit */
     uint64_t words[4];
 };
+
+/* The version of the archive, as NAUSTVRI_VERSION is the header's. */
+uint32_t naustvri_version(void);
 
 /* Number 0 and the values of six octets; 20 for another length, 22 for a level above 4, LFB 11 or a digit above 9. At 20 and
  * 22 all values are zero. Spare bits are ignored. */
@@ -185,7 +210,78 @@ uint8_t naustvri_list(uint8_t *table, size_t table_len, const uint8_t *events, s
                       size_t answers_len);
 
 /* The lamp map of a valid table with number 0; else the check's number with every other member zero. */
-struct naustvri_lamps naustvri_lamps(const uint8_t *table, size_t table_len);
+struct naustvri_lamps_reading naustvri_lamps(const uint8_t *table, size_t table_len);
+
+/* How the functions below are declared; a host may define it first. A C89 compiler that knows no inline function leaves them out. */
+#ifndef NAUSTVRI_INLINE
+#if defined(__cplusplus) || (defined(__STDC_VERSION__) && __STDC_VERSION__ >= 199901L)
+#define NAUSTVRI_INLINE static inline
+#elif defined(__GNUC__)
+#define NAUSTVRI_INLINE static __inline__
+#endif
+#endif
+
+#ifdef NAUSTVRI_INLINE
+/* Text for a value. A name is the constant's without its prefix, as "SEIZED"; a meaning is in words, as "the call holds the circuit,
+ * nobody lost one". For a value that the table does not have the text says so. It is never null, and lasts as long as the program. */
+#define NAUSTVRI_NAME(name, value, meaning) case value: return &#name[sizeof "NAUSTVRI_" - 1];
+#define NAUSTVRI_MEANING(name, value, meaning) case value: return meaning;
+#define NAUSTVRI_TEXT(table, of, value, unknown) switch (value) { table(of, of) default: return unknown; }
+
+NAUSTVRI_INLINE const char *naustvri_number_name(unsigned number)
+{
+    NAUSTVRI_TEXT(NAUSTVRI_NUMBERS, NAUSTVRI_NAME, number, "UNKNOWN")
+}
+
+NAUSTVRI_INLINE const char *naustvri_number_meaning(unsigned number)
+{
+    NAUSTVRI_TEXT(NAUSTVRI_NUMBERS, NAUSTVRI_MEANING, number, "unknown number")
+}
+
+NAUSTVRI_INLINE const char *naustvri_cause_name(unsigned cause)
+{
+    NAUSTVRI_TEXT(NAUSTVRI_CAUSES, NAUSTVRI_NAME, cause, "UNKNOWN")
+}
+
+NAUSTVRI_INLINE const char *naustvri_cause_meaning(unsigned cause)
+{
+    NAUSTVRI_TEXT(NAUSTVRI_CAUSES, NAUSTVRI_MEANING, cause, "unknown cause")
+}
+
+NAUSTVRI_INLINE const char *naustvri_level_name(unsigned level)
+{
+    NAUSTVRI_TEXT(NAUSTVRI_LEVELS, NAUSTVRI_NAME, level, "UNKNOWN")
+}
+
+NAUSTVRI_INLINE const char *naustvri_level_meaning(unsigned level)
+{
+    NAUSTVRI_TEXT(NAUSTVRI_LEVELS, NAUSTVRI_MEANING, level, "unknown level")
+}
+
+NAUSTVRI_INLINE const char *naustvri_lfb_name(unsigned lfb)
+{
+    NAUSTVRI_TEXT(NAUSTVRI_LFBS, NAUSTVRI_NAME, lfb, "UNKNOWN")
+}
+
+NAUSTVRI_INLINE const char *naustvri_lfb_meaning(unsigned lfb)
+{
+    NAUSTVRI_TEXT(NAUSTVRI_LFBS, NAUSTVRI_MEANING, lfb, "unknown LFB")
+}
+
+NAUSTVRI_INLINE const char *naustvri_kind_name(unsigned kind)
+{
+    NAUSTVRI_TEXT(NAUSTVRI_KINDS, NAUSTVRI_NAME, kind, "UNKNOWN")
+}
+
+NAUSTVRI_INLINE const char *naustvri_kind_meaning(unsigned kind)
+{
+    NAUSTVRI_TEXT(NAUSTVRI_KINDS, NAUSTVRI_MEANING, kind, "unknown kind")
+}
+
+#undef NAUSTVRI_TEXT
+#undef NAUSTVRI_MEANING
+#undef NAUSTVRI_NAME
+#endif
 
 #ifdef __cplusplus
 }

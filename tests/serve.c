@@ -78,7 +78,7 @@ static void call(const struct request *q, const struct arena *a, struct response
 {
     struct naustvri_precedence_reading precedence;
     struct naustvri_reference_reading reference;
-    struct naustvri_lamps lamps;
+    struct naustvri_lamps_reading lamps;
     switch (q->entry) {
     case READ_PRECEDENCE:
         precedence = naustvri_read_precedence(a[0].buffer, a[0].length);

@@ -1,0 +1,106 @@
+/* A host that uses the header as C89 and C++98 can: it lends empty buffers, adds offsets to sizes, and prints the text for each value.
+ * An empty buffer is a null pointer in C, and what an empty vector has in C++. A line "not so" and exit status 1 say that the library did otherwise than the header promises. */
+#include <stdio.h>
+#include <string.h>
+
+#include "naustvri.h"
+
+#ifdef __cplusplus
+#include <vector>
+static std::vector<uint8_t> no_octets;
+#define NOTHING no_octets.data()
+#else
+#define NOTHING NULL
+#endif
+
+static int failed;
+
+static void expect(int so, const char *promise)
+{
+    if (!so) {
+        printf("not so: %s\n", promise);
+        failed = 1;
+    }
+}
+
+/* One empty buffer. */
+static void lend_nothing(void)
+{
+    struct naustvri_precedence precedence = {NAUSTVRI_ROUTINE, NAUSTVRI_LFB_ALLOWED, {0, 0, 4, 6}, 7};
+    struct naustvri_reference reference = {1, 2};
+    struct naustvri_precedence_reading of_precedence = naustvri_read_precedence(NOTHING, 0);
+    struct naustvri_reference_reading of_reference = naustvri_read_reference(NOTHING, 0);
+    struct naustvri_lamps_reading of_lamps = naustvri_lamps(NOTHING, 0);
+    uint8_t damaged[NAUSTVRI_CIRCUIT_SIZE] = {2};
+    expect(of_precedence.number == NAUSTVRI_WRONG_LENGTH && of_precedence.value.service == 0, "read_precedence of nothing gives 20");
+    expect(of_reference.number == NAUSTVRI_WRONG_LENGTH && of_reference.value.identity == 0, "read_reference of nothing gives 20");
+    expect(of_lamps.number == NAUSTVRI_WRONG_LENGTH && of_lamps.lit == 0, "lamps of nothing gives 20");
+    expect(naustvri_write_precedence(NOTHING, 0, precedence) == NAUSTVRI_WRONG_LENGTH, "write_precedence into nothing gives 20");
+    expect(naustvri_write_reference(NOTHING, 0, reference) == NAUSTVRI_WRONG_LENGTH, "write_reference into nothing gives 20");
+    expect(naustvri_check(NOTHING, 0) == NAUSTVRI_WRONG_LENGTH, "check of nothing gives 20");
+    expect(naustvri_list(damaged, sizeof damaged, NOTHING, 0, NOTHING, 0) == NAUSTVRI_DONE, "no events over a table that is not valid give 0");
+}
+
+/* Some of three buffers empty: bit 0 of `empty` is the table, bit 1 the events, bit 2 the answers. */
+static void lend_some(unsigned empty)
+{
+    uint8_t table[NAUSTVRI_CIRCUIT_SIZE] = {0}, answer[NAUSTVRI_ANSWER_SIZE] = {0}, event[NAUSTVRI_EVENT_SIZE] = {NAUSTVRI_SET_UP};
+    uint8_t *t = empty & 1 ? NOTHING : table, *a = empty & 4 ? NOTHING : answer, number;
+    const uint8_t *e = empty & 2 ? NOTHING : event;
+    size_t t_len = empty & 1 ? 0 : sizeof table, e_len = empty & 2 ? 0 : sizeof event, a_len = empty & 4 ? 0 : sizeof answer;
+    number = naustvri_event(t, t_len, e, e_len, a, a_len);
+    expect(number == (empty == 0 ? NAUSTVRI_SEIZED : NAUSTVRI_WRONG_LENGTH), "event with an empty buffer gives 20");
+    expect(table[NAUSTVRI_CIRCUIT_HELD] == (empty == 0) && answer[NAUSTVRI_ANSWER_NUMBER] == (empty == 0), "at 20 no buffer is written");
+    memset(table, 0, sizeof table);
+    memset(answer, 0, sizeof answer);
+    number = naustvri_list(t, t_len, e, e_len, a, a_len);
+    expect(number == (empty == 0 || empty == 6 ? NAUSTVRI_DONE : NAUSTVRI_WRONG_LENGTH), "list is carried out with both or neither empty");
+    expect(table[NAUSTVRI_CIRCUIT_HELD] == (empty == 0) && answer[NAUSTVRI_ANSWER_NUMBER] == (empty == 0), "an empty list writes nothing");
+}
+
+/* A record beside another, and the octet after a field, by sums of the header's constants. */
+static void add_offsets(void)
+{
+    uint8_t octets[NAUSTVRI_EVENT_SIZE + NAUSTVRI_ANSWER_SIZE] = {0};
+    octets[NAUSTVRI_EVENT_SIZE + NAUSTVRI_ANSWER_NUMBER] = NAUSTVRI_DONE;
+    octets[NAUSTVRI_EVENT_REFERENCE + NAUSTVRI_REFERENCE_SIZE] = NAUSTVRI_CAUSE_NO_CIRCUIT;
+    expect(octets[NAUSTVRI_EVENT_CLOCK] == 34, "the clock follows after the reference");
+    expect(NAUSTVRI_CIRCUIT_ZERO + 4 == NAUSTVRI_CIRCUIT_SIZE, "four zero octets end a circuit");
+}
+
+#ifdef NAUSTVRI_INLINE
+static void print_texts(const char *what, const char *(*name)(unsigned), const char *(*meaning)(unsigned))
+{
+    unsigned value;
+    for (value = 0; value < 1000; value++)
+        if (strcmp(name(value), "UNKNOWN") != 0)
+            printf("%s %u %s %s\n", what, value, name(value), meaning(value));
+        else
+            expect(strncmp(meaning(value), "unknown ", 8) == 0, "a value that a table does not have is unknown");
+}
+
+static void print_all_texts(void)
+{
+    print_texts("number", naustvri_number_name, naustvri_number_meaning);
+    print_texts("cause", naustvri_cause_name, naustvri_cause_meaning);
+    print_texts("level", naustvri_level_name, naustvri_level_meaning);
+    print_texts("LFB", naustvri_lfb_name, naustvri_lfb_meaning);
+    print_texts("kind", naustvri_kind_name, naustvri_kind_meaning);
+}
+#else
+static void print_all_texts(void)
+{
+    printf("no text\n");
+}
+#endif
+
+int main(void)
+{
+    unsigned empty;
+    lend_nothing();
+    for (empty = 0; empty < 8; empty++)
+        lend_some(empty);
+    add_offsets();
+    print_all_texts();
+    return failed;
+}
