@@ -1,8 +1,9 @@
 // The functions as C has them.
 
-use crate::{Lamps, Precedence, PrecedenceReading, Reference, ReferenceReading};
+use crate::{LampsReading, Precedence, PrecedenceReading, Reference, ReferenceReading};
 
 extern "C" {
+    pub fn naustvri_version() -> u32;
     pub fn naustvri_read_precedence(octets: *const u8, octets_len: usize) -> PrecedenceReading;
     pub fn naustvri_write_precedence(buffer: *mut u8, buffer_len: usize, value: Precedence) -> u8;
     pub fn naustvri_read_reference(octets: *const u8, octets_len: usize) -> ReferenceReading;
@@ -24,5 +25,5 @@ extern "C" {
         answers: *mut u8,
         answers_len: usize,
     ) -> u8;
-    pub fn naustvri_lamps(table: *const u8, table_len: usize) -> Lamps;
+    pub fn naustvri_lamps(table: *const u8, table_len: usize) -> LampsReading;
 }

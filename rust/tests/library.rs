@@ -267,7 +267,7 @@ fn lamps_and_check() {
     }
     assert_eq!(
         lamps(&table),
-        Lamps {
+        LampsReading {
             number: DONE,
             lit: 253,
             words: [!7, !0, !0, !0]
@@ -275,16 +275,16 @@ fn lamps_and_check() {
     );
     assert_eq!(
         lamps(&table[..130 * CIRCUIT_SIZE]),
-        Lamps {
+        LampsReading {
             number: DONE,
             lit: 127,
             words: [!7, !0, 3, 0]
         }
     );
 
-    let refused = |number| Lamps {
+    let refused = |number| LampsReading {
         number,
-        ..Lamps::default()
+        ..LampsReading::default()
     };
     assert_eq!(
         (check(&table[1..]), lamps(&table[1..])),

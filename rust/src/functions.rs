@@ -1,0 +1,79 @@
+// The functions of include/naustvri.h over slices.
+
+use crate::{raw, LampsReading, Precedence, PrecedenceReading, Reference, ReferenceReading};
+
+/// The version of the archive, as [`VERSION`](crate::VERSION) is this package's.
+#[must_use]
+pub fn version() -> u32 {
+    // SAFETY: the function takes nothing and reads nothing.
+    unsafe { raw::naustvri_version() }
+}
+
+/// Number 0 and the values of six octets; 20 for another length, 22 for a level above 4, LFB 11 or a digit above 9. At 20 and 22 all
+/// values are zero. Spare bits are ignored.
+pub fn read_precedence(octets: &[u8]) -> PrecedenceReading {
+    // SAFETY, here and below: each pointer and length are those of one borrowed slice, and the function uses nothing else.
+    unsafe { raw::naustvri_read_precedence(octets.as_ptr(), octets.len()) }
+}
+
+/// 0 with the six octets written, spare bits 0; 20 for a buffer of another length, 22 for a value that is too large. At 20 and 22 the
+/// buffer is as it was.
+#[must_use]
+pub fn write_precedence(buffer: &mut [u8], value: Precedence) -> u8 {
+    unsafe { raw::naustvri_write_precedence(buffer.as_mut_ptr(), buffer.len(), value) }
+}
+
+/// Number 0 and the values of five octets; 20 for another length, with zero values. Spare bits are ignored.
+pub fn read_reference(octets: &[u8]) -> ReferenceReading {
+    unsafe { raw::naustvri_read_reference(octets.as_ptr(), octets.len()) }
+}
+
+/// 0 with the five octets written, spare bits 0; 20 for a buffer of another length, 22 for a value that is too large. At 20 and 22 the
+/// buffer is as it was.
+#[must_use]
+pub fn write_reference(buffer: &mut [u8], value: Reference) -> u8 {
+    unsafe { raw::naustvri_write_reference(buffer.as_mut_ptr(), buffer.len(), value) }
+}
+
+/// 0 for a valid table, 20 for a length that is not 1 to 256 whole circuits, else 21.
+#[must_use]
+pub fn check(table: &[u8]) -> u8 {
+    unsafe { raw::naustvri_check(table.as_ptr(), table.len()) }
+}
+
+/// One event applied to a table: the answer's number. At 20 (a length is wrong) no buffer is written; at any other refusal the answer is
+/// written and the table is as it was.
+#[must_use]
+pub fn event(table: &mut [u8], event: &[u8], answer: &mut [u8]) -> u8 {
+    unsafe {
+        raw::naustvri_event(
+            table.as_mut_ptr(),
+            table.len(),
+            event.as_ptr(),
+            event.len(),
+            answer.as_mut_ptr(),
+            answer.len(),
+        )
+    }
+}
+
+/// A list of events applied in order, one answer for each: 0, or 20 where a length is wrong and no buffer is written. It equals its
+/// events applied one by one; over a table that is not valid each answer is 22 or 21.
+#[must_use]
+pub fn list(table: &mut [u8], events: &[u8], answers: &mut [u8]) -> u8 {
+    unsafe {
+        raw::naustvri_list(
+            table.as_mut_ptr(),
+            table.len(),
+            events.as_ptr(),
+            events.len(),
+            answers.as_mut_ptr(),
+            answers.len(),
+        )
+    }
+}
+
+/// The lamp map of a valid table with number 0; else the check's number with every other member zero.
+pub fn lamps(table: &[u8]) -> LampsReading {
+    unsafe { raw::naustvri_lamps(table.as_ptr(), table.len()) }
+}

@@ -1,0 +1,61 @@
+// The values that cross the line to the archive, laid out as C has them.
+
+/// The values of a precedence parameter.
+#[repr(C)]
+#[derive(Clone, Copy, Debug, Default, PartialEq, Eq, Hash)]
+pub struct Precedence {
+    /// The level, 0 to 4: 0 is the highest.
+    pub level: u8,
+    /// The LFB indicator, 0 to 2.
+    pub lfb: u8,
+    /// The network identity, first digit first, each 0 to 9.
+    pub digits: [u8; 4],
+    /// The service domain, 24 bits.
+    pub service: u32,
+}
+
+/// What [`read_precedence`](crate::read_precedence) gives.
+#[repr(C)]
+#[derive(Clone, Copy, Debug, Default, PartialEq, Eq)]
+#[must_use]
+pub struct PrecedenceReading {
+    /// 0, or why nothing was read.
+    pub number: u8,
+    /// The values; zero where nothing was read.
+    pub value: Precedence,
+}
+
+/// The values of a call reference.
+#[repr(C)]
+#[derive(Clone, Copy, Debug, Default, PartialEq, Eq, Hash)]
+pub struct Reference {
+    /// The call identity, 24 bits.
+    pub identity: u32,
+    /// The point code, 14 bits.
+    pub point: u16,
+}
+
+/// What [`read_reference`](crate::read_reference) gives.
+#[repr(C)]
+#[derive(Clone, Copy, Debug, Default, PartialEq, Eq)]
+#[must_use]
+pub struct ReferenceReading {
+    /// 0, or why nothing was read.
+    pub number: u8,
+    /// The values; zero where nothing was read.
+    pub value: Reference,
+}
+
+/// What [`lamps`](crate::lamps) gives: four words of 64 lamps. Circuit 64 × j + i is bit i of `words[j]`, lit where it is free, dark past
+/// the table's end.
+#[repr(C)]
+#[derive(Clone, Copy, Debug, Default, PartialEq, Eq)]
+#[must_use]
+pub struct LampsReading {
+    /// 0, or why the table was refused.
+    pub number: u8,
+    /// How many are lit; 0 where the table was refused.
+    pub lit: u16,
+    /// The lamps; all dark where the table was refused.
+    pub words: [u64; 4],
+}

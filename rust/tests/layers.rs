@@ -1,0 +1,207 @@
+// Random events through both layers: the typed one answers what the functions over slices answer, and leaves the same table.
+
+use naustvri::*;
+
+// Numbers that look random (xorshift).
+struct Random(u64);
+
+impl Random {
+    fn below(&mut self, bound: u32) -> u32 {
+        self.0 ^= self.0 << 13;
+        self.0 ^= self.0 >> 7;
+        self.0 ^= self.0 << 17;
+        (self.0 >> 32) as u32 % bound
+    }
+
+    // Rarely what is too large, else below the bound.
+    fn mostly_below(&mut self, bound: u32, too_large: u32) -> u32 {
+        if self.below(64) == 0 {
+            too_large
+        } else {
+            self.below(bound)
+        }
+    }
+}
+
+// The fields of an event, with values that may be too large.
+struct Drawn {
+    kind: u8,
+    precedence: Precedence,
+    call: Reference,
+    clock: u32,
+}
+
+fn draw(random: &mut Random, clock: u32) -> Drawn {
+    let first_digit = random.mostly_below(2, 10) as u8;
+    Drawn {
+        kind: [
+            SET_UP, SET_UP, RELEASE, LOOK_AHEAD, LOOK_AHEAD, CANCEL, CLOCK,
+        ][random.below(7) as usize],
+        precedence: Precedence {
+            level: random.below(5) as u8,
+            lfb: [LFB_ALLOWED, LFB_ALLOWED, LFB_PATH_RESERVED, LFB_NOT_ALLOWED]
+                [random.below(4) as usize],
+            digits: [first_digit, 0, 4, 6],
+            service: random.mostly_below(1, 1 << 24),
+        },
+        call: Reference {
+            identity: random.mostly_below(12, 1 << 24),
+            point: random.mostly_below(2, 1 << 14) as u16,
+        },
+        clock,
+    }
+}
+
+fn typed(drawn: &Drawn) -> Event {
+    let Drawn {
+        precedence,
+        call,
+        clock,
+        ..
+    } = *drawn;
+    let level = Level::from_number(precedence.level).unwrap();
+    let lfb = Lfb::from_number(precedence.lfb).unwrap();
+    let domain = Domain {
+        digits: precedence.digits,
+        service: precedence.service,
+    };
+    match drawn.kind {
+        SET_UP => Event::SetUp {
+            call,
+            level,
+            domain,
+            lfb,
+        },
+        RELEASE => Event::Release { call },
+        LOOK_AHEAD => Event::LookAhead {
+            call,
+            level,
+            domain,
+            lfb,
+            clock,
+        },
+        CANCEL => Event::Cancel { call },
+        _ => Event::Clock { clock },
+    }
+}
+
+// The octets by the writing functions, or the number by which one of them refuses.
+fn octets(drawn: &Drawn) -> Result<[u8; EVENT_SIZE], u8> {
+    let mut octets = [0; EVENT_SIZE];
+    octets[0] = drawn.kind;
+    octets[12..].copy_from_slice(&drawn.clock.to_le_bytes());
+    if drawn.kind == SET_UP || drawn.kind == LOOK_AHEAD {
+        match write_precedence(&mut octets[1..7], drawn.precedence) {
+            DONE => (),
+            number => return Err(number),
+        }
+    }
+    if drawn.kind != CLOCK {
+        match write_reference(&mut octets[7..12], drawn.call) {
+            DONE => (),
+            number => return Err(number),
+        }
+    }
+    Ok(octets)
+}
+
+// The octets that an answer came from.
+fn octets_of(answer: Answer) -> [u8; ANSWER_SIZE] {
+    let mut octets = [0; ANSWER_SIZE];
+    octets[0] = answer.number;
+    octets[1] = answer.cause;
+    octets[2..4].copy_from_slice(&answer.place.unwrap_or(NO_PLACE).to_le_bytes());
+    for (flag, lost) in [(4, answer.lost.call), (10, answer.lost.reservation)] {
+        if let Some(reference) = lost {
+            octets[flag] = 1;
+            assert_eq!(
+                write_reference(&mut octets[flag + 1..flag + 6], reference),
+                DONE
+            );
+        }
+    }
+    octets
+}
+
+// What the typed layer gives, as the answer that says the same.
+fn as_answer(result: Result<Done, Refusal>) -> Answer {
+    let nobody = Lost::default();
+    let (number, cause, place, lost) = match result {
+        Ok(Done::Seized { circuit, lost }) => {
+            (if lost == nobody { 1 } else { 2 }, 0, Some(circuit), lost)
+        }
+        Ok(Done::Reserved { circuit, lost }) => {
+            (if lost == nobody { 3 } else { 4 }, 0, Some(circuit), lost)
+        }
+        Ok(Done::Released { circuit }) => (5, 0, Some(circuit), nobody),
+        Ok(Done::Cancelled { circuit }) => (6, 0, Some(circuit), nobody),
+        Ok(Done::ClockTaken { removed }) => (7, 0, Some(removed), nobody),
+        Err(refusal) => (refusal.number(), refusal.cause(), None, nobody),
+        other => panic!("not looked at: {:?}", other),
+    };
+    Answer {
+        number,
+        cause,
+        place,
+        lost,
+    }
+}
+
+#[test]
+fn random_events() {
+    let mut random = Random(0x9e37_79b9_7f4a_7c15);
+    let mut seen = [0u32; 256];
+    for round in 0..200 {
+        let size = (1 + round % 5) * CIRCUIT_SIZE;
+        let (mut table, mut lent) = (vec![0; size], vec![0; size]);
+        let mut route = Route::new(&mut lent).unwrap();
+        let (mut events, mut answers) = (Vec::new(), Vec::new());
+        let mut clock = random.below(u32::MAX);
+        for _ in 0..300 {
+            clock = clock.wrapping_add(random.below(1500));
+            let drawn = draw(&mut random, clock);
+            let given = as_answer(route.apply(&typed(&drawn)));
+            seen[usize::from(given.number)] += 1;
+            match octets(&drawn) {
+                Err(number) => assert_eq!(given.number, number),
+                Ok(octets) => {
+                    let mut answer = [0xff; ANSWER_SIZE];
+                    assert_eq!(event(&mut table, &octets, &mut answer), given.number);
+                    assert_eq!(octets_of(given), answer);
+                    assert_eq!(Answer::from_octets(&answer), given);
+                    events.extend(octets);
+                    answers.extend(answer);
+                }
+            }
+            assert_eq!(route.table(), table);
+        }
+        assert_eq!(route.lamps(), lamps(&table));
+
+        // The same events as a list.
+        let mut listed = vec![0; size];
+        let mut told = vec![0; answers.len()];
+        assert_eq!(
+            Route::new(&mut listed).unwrap().list(&events, &mut told),
+            Ok(())
+        );
+        assert_eq!((listed, told), (table, answers));
+    }
+    // Every number that an event over a valid table can have.
+    for number in [1, 2, 3, 4, 5, 6, 7, 22, 23, 24, 25, 26, 27, 30, 31, 32] {
+        assert!(seen[number] > 0, "no event was answered by {number}");
+    }
+}
+
+#[test]
+fn tables_that_are_refused() {
+    let refusal = |table: &mut [u8]| Route::new(table).map(|_| ()).unwrap_err();
+    assert_eq!(refusal(&mut []), Refusal::WrongLength);
+    assert_eq!(refusal(&mut [0; CIRCUIT_SIZE + 1]), Refusal::WrongLength);
+    assert_eq!(refusal(&mut [1; CIRCUIT_SIZE]), Refusal::TableNotValid);
+    let mut table = [0; CIRCUIT_SIZE];
+    let mut route = Route::new(&mut table).unwrap();
+    assert_eq!(
+        route.list(&[0; EVENT_SIZE], &mut []),
+        Err(Refusal::WrongLength)
+    );
+}

@@ -1,0 +1,106 @@
+// The version, the numbers of the enums, and text for a value.
+
+use naustvri::*;
+use std::error::Error;
+
+#[test]
+fn version_of_package_and_archive() {
+    assert_eq!(version(), VERSION);
+    let parts = [VERSION_MAJOR, VERSION_MINOR, VERSION_PATCH].map(|part| part.to_string());
+    assert_eq!(env!("CARGO_PKG_VERSION"), parts.join("."));
+}
+
+#[test]
+fn enums_there_and_back() {
+    for number in 0..=255 {
+        let level = Level::ALL
+            .iter()
+            .copied()
+            .find(|value| value.number() == number);
+        assert_eq!(Level::from_number(number), level);
+        let lfb = Lfb::ALL
+            .iter()
+            .copied()
+            .find(|value| value.number() == number);
+        assert_eq!(Lfb::from_number(number), lfb);
+        let kind = Kind::ALL
+            .iter()
+            .copied()
+            .find(|value| value.number() == number);
+        assert_eq!(Kind::from_number(number), kind);
+        let refusal = Refusal::ALL
+            .iter()
+            .copied()
+            .find(|value| value.number() == number);
+        assert_eq!(
+            Refusal::from_number(number),
+            refusal.unwrap_or(Refusal::Unknown(number))
+        );
+        assert_eq!(Refusal::from_number(number).number(), number);
+    }
+    assert_eq!(
+        (
+            Level::ALL.len(),
+            Lfb::ALL.len(),
+            Kind::ALL.len(),
+            Refusal::ALL.len()
+        ),
+        (5, 3, 5, 12)
+    );
+}
+
+#[test]
+fn texts() {
+    assert_eq!(
+        (number_name(2), number_meaning(7)),
+        ("SEIZED_WITH_LOSS", "the clock was looked at")
+    );
+    assert_eq!(
+        (cause_name(46), cause_meaning(46)),
+        ("CAUSE_PRECEDENCE_CALL_BLOCKED", "precedence call blocked, for a higher level")
+    );
+    assert_eq!(
+        (level_name(0), level_meaning(0)),
+        ("FLASH_OVERRIDE", "FLASH OVERRIDE")
+    );
+    assert_eq!(
+        (lfb_name(1), lfb_meaning(1)),
+        ("LFB_PATH_RESERVED", "path reserved")
+    );
+    assert_eq!(
+        (kind_name(3), kind_meaning(3)),
+        ("LOOK_AHEAD", "look-ahead")
+    );
+    assert_eq!(
+        (number_name(8), number_meaning(8)),
+        ("UNKNOWN", "unknown number")
+    );
+    assert_eq!(
+        (cause_name(1), cause_meaning(1)),
+        ("UNKNOWN", "unknown cause")
+    );
+    assert_eq!(
+        (level_name(5), level_meaning(5)),
+        ("UNKNOWN", "unknown level")
+    );
+    assert_eq!((lfb_name(3), lfb_meaning(3)), ("UNKNOWN", "unknown LFB"));
+    assert_eq!((kind_name(0), kind_meaning(6)), ("UNKNOWN", "unknown kind"));
+    assert_eq!(
+        (Level::Routine.name(), Kind::SetUp.to_string()),
+        ("ROUTINE", String::from("set-up"))
+    );
+    assert_eq!(format!("[{:>9}]", Level::Flash), "[    FLASH]");
+}
+
+#[test]
+fn refusals_are_errors() {
+    let error: Box<dyn Error> = Box::new(Refusal::TableNotValid);
+    assert_eq!(
+        error.to_string(),
+        "21 TABLE_NOT_VALID: the table is not valid"
+    );
+    assert_eq!(
+        Refusal::Unknown(99).to_string(),
+        "99 UNKNOWN: unknown number"
+    );
+}
