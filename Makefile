@@ -4,7 +4,10 @@
 # make bench: the library's instructions beside those of plain C, in tables.
 # make soak [SECONDS=600] [SEED=1]: the outside tests on ever other cases, with the seed of any difference.
 # make planted: errors planted in a stand-in for the library, each of which the outside tests find.
-.PHONY: test edits demo bench soak planted
+# make install [PREFIX=/usr/local] [DESTDIR=]: header, archive, programs, man pages and handbook, for hosts to use.
+# make uninstall [PREFIX=/usr/local] [DESTDIR=]: takes them away.
+# make reproducible: the archive, built in two folders, is octet for octet the same.
+.PHONY: test edits demo bench soak planted install uninstall reproducible
 
 test:
 	@command -v rt >/dev/null || { echo "rt, the command of the Rattle toolchain, is not on the PATH" >&2; exit 1; }
@@ -26,3 +29,18 @@ soak:
 
 planted:
 	@tests/planted.sh
+
+# What is installed is built where it is older than its sources.
+built = target/staticlib/libnaustvri.a target/bin/decide target/bin/panel
+$(built) &: $(shell find crates crates.txt -type f)
+	@scripts/build.sh
+
+PREFIX = /usr/local
+install: $(built)
+	@scripts/install.sh install '$(PREFIX)' '$(DESTDIR)'
+
+uninstall:
+	@scripts/install.sh uninstall '$(PREFIX)' '$(DESTDIR)'
+
+reproducible:
+	@tests/reproducible.sh

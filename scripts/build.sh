@@ -1,0 +1,8 @@
+#!/bin/sh
+# build.sh: proves and builds what is installed: the library that hosts link, and the two programs.
+. "$(dirname "$0")/machine.sh"
+echo "build: proving and building the library and the programs, which takes some minutes" >&2
+build_programs naustvri
+archive=$(library)
+# What rt found unchanged is as new as its sources.
+touch "$archive" "$bin/decide" "$bin/panel"
