@@ -1,6 +1,6 @@
 #!/bin/sh
-# run.sh                        the outside tests of the gate: the example, the handbook, the Rust interface, the programs, then the library
-#                               against the independent implementation, always the same cases
+# run.sh                        the outside tests of the gate: the example, the header, the version, the handbook, the Rust package, the
+#                               programs, what is installed, then the library against the independent implementation, always the same cases
 # run.sh seconds COUNT [SEED]   other cases for so many seconds, with a line now and then and the seed of any difference
 # run.sh rounds COUNT SEED      so many rounds from a seed; one round where a difference is to come again
 . "$(dirname "$0")/build.sh"
@@ -12,9 +12,12 @@ build_driver
 archive=$(library)
 if [ $# = 0 ]; then
     "$repository/tests/example.sh" "$archive"
+    "$repository/tests/header.sh" "$archive"
+    "$repository/tests/version.sh" "$archive"
     "$repository/tests/handbook.sh" "$archive"
     "$repository/tests/rust.sh" "$archive"
     "$repository/tests/program.sh"
+    "$repository/tests/install.sh"
 fi
 build_server "$out/serve" "$archive"
 [ "$unit" = rounds ] || echo "outside: from seed $seed"
