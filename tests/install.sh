@@ -12,11 +12,24 @@ host=$room/host stage=$room/stage
 target() { make --no-print-directory -C "$repository" "$@" >>"$room/log" 2>&1 || { cat "$room/log" >&2; die "make $1 failed"; }; }
 
 # installed FOLDER: the files in it, by name.
-installed() { (cd "$1" && find . ! -type d | sort); }
+installed() { (cd "$1" && find . ! -type d | LC_ALL=C sort); }
 
 target install PREFIX="$host"
 target install PREFIX=/usr DESTDIR="$stage"
-installed "$host" >"$room/files"
+cat >"$room/files" <<'END'
+./bin/naustvri-decide
+./bin/naustvri-panel
+./include/naustvri.h
+./lib/libnaustvri.a
+./lib/pkgconfig/naustvri.pc
+./share/doc/naustvri/CHANGELOG.md
+./share/doc/naustvri/HANDBOOK.md
+./share/doc/naustvri/LICENSE
+./share/doc/naustvri/two_calls.c
+./share/man/man1/naustvri-decide.1
+./share/man/man1/naustvri-panel.1
+END
+installed "$host" | diff "$room/files" -
 installed "$stage/usr" | diff "$room/files" -
 grep -q '^prefix=/usr$' "$stage/usr/lib/pkgconfig/naustvri.pc" || die "DESTDIR stands in naustvri.pc"
 
