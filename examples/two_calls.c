@@ -23,6 +23,8 @@ static void set_up(uint8_t *table, uint8_t level, uint32_t identity)
 int main(void)
 {
     uint8_t table[NAUSTVRI_CIRCUIT_SIZE] = {0}; /* one circuit, free */
+    if (naustvri_version() != NAUSTVRI_VERSION)
+        return 1; /* this header is not the archive's */
     set_up(table, NAUSTVRI_ROUTINE, 1);
     set_up(table, NAUSTVRI_PRIORITY, 2);
     return 0;
