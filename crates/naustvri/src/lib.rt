@@ -9,7 +9,9 @@ ghost use Rattle.naustvri.specs.Version.{version};
 
 // The version's three parts, as in the header.
 const MAJOR: u32 = 1;
+
 const MINOR: u32 = 0;
+
 const PATCH: u32 = 0;
 
 #[no_mangle]
