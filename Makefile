@@ -30,7 +30,6 @@ soak:
 planted:
 	@tests/planted.sh
 
-# What is installed is built where it is older than its sources.
 built = target/staticlib/libnaustvri.a target/bin/decide target/bin/panel
 $(built) &: $(shell find crates crates.txt -type f)
 	@scripts/build.sh
