@@ -1,5 +1,6 @@
 /* A host that uses the header as C89 and C++98 can: it lends empty buffers, adds offsets to sizes, and prints the text for each value.
- * An empty buffer is a null pointer in C, and what an empty vector has in C++. A line "not so" and exit status 1 say that the library did otherwise than the header promises. */
+ * An empty buffer is a null pointer in C, and what an empty vector has in C++. A line "not so" and exit status 1 say that the library
+ * did otherwise than the header promises. */
 #include <stdio.h>
 #include <string.h>
 
