@@ -91,6 +91,11 @@ fn say(tally: &Tally, since: Instant, end: &str) {
     println!("outside: {} s, {} rounds, {} calls, {} events in lists{}", seconds, tally.rounds, tally.calls, tally.events, end);
 }
 
+// How fast it goes: a case is one call, a whole list too.
+fn pace(tally: &Tally, since: Instant) -> String {
+    format!(", {:.0} cases a second", tally.calls as f64 / since.elapsed().as_secs_f64())
+}
+
 fn main() {
     let words: Vec<String> = std::env::args().skip(1).collect();
     let number = |i: usize| words.get(i).and_then(|w| w.parse::<u64>().ok());
@@ -114,7 +119,7 @@ fn main() {
         }
         if by_time && said.elapsed() >= Duration::from_secs(10) {
             said = Instant::now();
-            say(&tally, began, "");
+            say(&tally, began, &pace(&tally, began));
         }
     }
     if let Err(difference) = exchange.end() {
