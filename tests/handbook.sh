@@ -1,16 +1,31 @@
 #!/bin/sh
-# handbook.sh [ARCHIVE]: applies the events in docs/HANDBOOK.md and compares the answers and circuits printed there with the library's.
-# ARCHIVE: the library where it is built already.
+# handbook.sh [ARCHIVE]: applies the events in docs/HANDBOOK.md and compares the answers and circuits printed there with the library's; and
+# provokes every number in each way that its table of the numbers names. ARCHIVE: the library where it is built already.
 . "$(dirname "$0")/../scripts/machine.sh"
 need_compiler
 archive=${1:-$(library)}
-out=$repository/target/handbook
+handbook=$repository/docs/HANDBOOK.md out=$repository/target/handbook
 mkdir -p "$out"
-"$xcc" -O2 -Wall -Wextra -I "$repository/include" -static -no-pie -o "$out/replay" "$repository/tests/replay.c" "$archive"
+
+# build PROGRAM: a program of tests/ that calls the library.
+build() { "$xcc" -O2 -Wall -Wextra -I "$repository/include" -static -no-pie -o "$out/$1" "$repository/tests/$1.c" "$archive"; }
 
 # The indented lines that replay.c reads, without the words that follow after three spaces.
-sed -E '/^    (route [0-9]|event  [0-9a-f]|answer [0-9a-f]|circuit [0-9]+ \|)/!d; s/^    //; s/   .*//' "$repository/docs/HANDBOOK.md" >"$out/printed"
+build replay
+sed -E '/^    (route [0-9]|event  [0-9a-f]|answer [0-9a-f]|circuit [0-9]+ \|)/!d; s/^    //; s/   .*//' "$handbook" >"$out/printed"
 run_x86 "$out/replay" <"$out/printed" >"$out/given"
 diff "$out/printed" "$out/given"
 events=$(grep -c '^event' "$out/printed") || die "no event found in HANDBOOK.md"
-echo "handbook: $events events answered as printed"
+
+# The fifth column's ways, each after the number in the second; a number that cannot be provoked has none.
+build provoke
+awk -F ' *[|] *' '
+    /^[|] no[.] [|]/ { numbers = 1 }
+    !NF { numbers = 0 }
+    numbers && $2 ~ /^[0-9]+$/ && $5 !~ /^it cannot be provoked/ {
+        ways = split($5, way, "; ")
+        for (i = 1; i <= ways; i++) print $2, way[i]
+    }' "$handbook" >"$out/ways"
+run_x86 "$out/provoke" >"$out/provoked"
+diff "$out/ways" "$out/provoked"
+echo "handbook: $events events answered as printed, numbers provoked in $(wc -l <"$out/ways") ways"

@@ -18,6 +18,7 @@ if [ $# = 0 ]; then
     "$repository/tests/handbook.sh" "$archive"
     "$repository/tests/rust.sh" "$archive"
     "$repository/tests/program.sh"
+    "$repository/tests/typed.sh"
     "$repository/tests/install.sh"
 fi
 build_server "$out/serve" "$archive"

@@ -1,0 +1,121 @@
+/* Provokes every number as the handbook's table says: writes a line for each way, the number that the library gave, then the handbook's
+ * words for that way. */
+#include <stdio.h>
+#include <stdlib.h>
+#include <string.h>
+
+#include "naustvri.h"
+
+enum { CIRCUITS = 2 };
+
+static uint8_t table[CIRCUITS * NAUSTVRI_CIRCUIT_SIZE], event[2 * NAUSTVRI_EVENT_SIZE], answer[2 * NAUSTVRI_ANSWER_SIZE];
+
+/* A step of a script, with its digits:
+ *
+ *   sLC lLC     set-up, look-ahead of call C at level L, LFB "allowed"
+ *   rC cC k     release, cancel of call C; clock
+ *   @N=XX       changes octet N of the event that the step before it made, before that is applied
+ *   #N=XX       changes octet N of the table */
+static void make_event(const char *step)
+{
+    static const char kinds[] = "srlck";
+    const char *kind = strchr(kinds, step[0]);
+    if (kind == NULL)
+        exit(2);
+    memset(event, 0, sizeof event);
+    event[NAUSTVRI_EVENT_KIND] = (uint8_t)(NAUSTVRI_SET_UP + (kind - kinds));
+    const char *call = step + 1;
+    if (*kind == 's' || *kind == 'l')
+        event[NAUSTVRI_EVENT_PRECEDENCE] = (uint8_t)(*call++ - '0');
+    if (*kind != 'k')
+        event[NAUSTVRI_EVENT_REFERENCE] = (uint8_t)(*call - '0');
+}
+
+static void change(uint8_t *octets, const char *step)
+{
+    char *value;
+    unsigned long place = strtoul(step + 1, &value, 10);
+    octets[place] = (uint8_t)strtoul(value + 1, NULL, 16);
+}
+
+/* The number of a script's last event, over so many free circuits. */
+static int last_number(size_t circuits, const char *script)
+{
+    char steps[64];
+    int number = -1;
+    memset(table, 0, sizeof table);
+    snprintf(steps, sizeof steps, "%s", script);
+    for (char *step = strtok(steps, " "); step != NULL; step = strtok(NULL, " ")) {
+        if (step[0] == '#') {
+            change(table, step);
+            continue;
+        }
+        make_event(step);
+        if (strchr(step, '@') != NULL)
+            change(event, strchr(step, '@'));
+        number = naustvri_event(table, circuits * NAUSTVRI_CIRCUIT_SIZE, event, NAUSTVRI_EVENT_SIZE, answer, NAUSTVRI_ANSWER_SIZE);
+    }
+    return number;
+}
+
+/* What is no script of events over a valid table. */
+static int check_zeros(void)
+{
+    memset(table, 0, sizeof table);
+    return naustvri_check(table, NAUSTVRI_CIRCUIT_SIZE);
+}
+
+static int short_event(void) { return naustvri_event(table, sizeof table, event, NAUSTVRI_EVENT_SIZE - 1, answer, NAUSTVRI_ANSWER_SIZE); }
+
+static int long_table(void) { return naustvri_check(table, NAUSTVRI_CIRCUIT_SIZE + 1); }
+
+static int short_list(void) { return naustvri_list(table, sizeof table, event, 2 * NAUSTVRI_EVENT_SIZE, answer, NAUSTVRI_ANSWER_SIZE); }
+
+static int great_point_code(void)
+{
+    uint8_t octets[NAUSTVRI_REFERENCE_SIZE];
+    return naustvri_write_reference(octets, sizeof octets, (struct naustvri_reference){.identity = 1, .point = 16384});
+}
+
+static const struct {
+    const char *words;
+    size_t circuits;
+    const char *script;
+    int (*other)(void); /* in place of a script */
+} ways[] = {
+    {"check a table of 32 zero octets", 0, NULL, check_zeros},
+    {"set up a call on a free route", 1, "s41", NULL},
+    {"set up a PRIORITY call on a route full of ROUTINE calls", 2, "s41 s42 s33", NULL},
+    {"look ahead at PRIORITY, LFB \"allowed\", on a free route", 1, "l31", NULL},
+    {"look ahead at PRIORITY, then at IMMEDIATE with another reference, on a route of one circuit", 1, "l31 l22", NULL},
+    {"release a call that holds a circuit", 1, "s41 r1", NULL},
+    {"cancel a reservation", 1, "l31 c1", NULL},
+    {"any clock event", 1, "k", NULL},
+    {"an event of 15 octets", 0, NULL, short_event},
+    {"a table of 33 octets", 0, NULL, long_table},
+    {"a list with one answer place too few", 0, NULL, short_list},
+    {"a set-up with level 5", 1, "s51", NULL},
+    {"a set-up with LFB 11", 1, "s31@1=63", NULL},
+    {"a set-up with a digit `a`", 1, "s31@2=0a", NULL},
+    {"a release whose parameter is not zero", 1, "s41 r1@1=04", NULL},
+    {"kind 0", 1, "k@0=00", NULL},
+    {"writing a point code of 16384", 0, NULL, great_point_code},
+    {"a flag of 2", 1, "#0=02 s41", NULL},
+    {"one reference in two circuits", 2, "s41 s42 #39=01 k", NULL},
+    {"an octet left in an absent part", 1, "#7=01 s42", NULL},
+    {"look ahead with octet 1 of the parameter `43`", 1, "l31@1=43", NULL},
+    {"look ahead with octet 1 of the parameter `04`", 1, "l31@1=04", NULL},
+    {"set the same call up twice", 2, "s41 s41", NULL},
+    {"look ahead at IMMEDIATE, set the same call up at FLASH", 1, "l21 s11", NULL},
+    {"release a call twice", 1, "s41 r1 r1", NULL},
+    {"set up a ROUTINE call on a full route", 1, "s41 s42", NULL},
+    {"set up a PRIORITY call on a route full of PRIORITY calls", 2, "s31 s32 s33", NULL},
+    {"look ahead at PRIORITY on a route full of PRIORITY calls", 2, "s31 s32 l33", NULL},
+};
+
+int main(void)
+{
+    for (size_t i = 0; i < sizeof ways / sizeof *ways; i++)
+        printf("%d %s\n", ways[i].other ? ways[i].other() : last_number(ways[i].circuits, ways[i].script), ways[i].words);
+    return 0;
+}
