@@ -1,6 +1,6 @@
 #!/bin/sh
-# handbook.sh [ARCHIVE]: applies the events in docs/HANDBOOK.md and compares the answers and circuits printed there with the library's; and
-# provokes every number in each way that its table of the numbers names. ARCHIVE: the library where it is built already.
+# handbook.sh [ARCHIVE]: applies the events in docs/HANDBOOK.md and compares the answers and circuits printed there with the library's;
+# provokes every number in each way that its table of the numbers names; and follows its links. ARCHIVE: the library where it is built already.
 . "$(dirname "$0")/../scripts/machine.sh"
 need_compiler
 archive=${1:-$(library)}
@@ -28,4 +28,10 @@ awk -F ' *[|] *' '
     }' "$handbook" >"$out/ways"
 run_x86 "$out/provoke" >"$out/provoked"
 diff "$out/ways" "$out/provoked"
+
+# Every link within the handbook leads to a heading.
+sed -n 's/^##* //p' "$handbook" | tr 'A-Z ' 'a-z-' | tr -cd 'a-z0-9\n-' | sort >"$out/headings"
+grep -o '(#[^)]*)' "$handbook" | tr -d '(#)' | sort -u >"$out/links"
+lost=$(comm -23 "$out/links" "$out/headings")
+[ -z "$lost" ] || die "links of HANDBOOK.md that lead nowhere: $lost"
 echo "handbook: $events events answered as printed, numbers provoked in $(wc -l <"$out/ways") ways"
