@@ -1,15 +1,17 @@
 #!/bin/sh
-# run.sh [ARCHIVE..]: counts the library's instructions beside those of plain C and prints the tables, in Markdown.
-# ARCHIVE: other archives with the functions of naustvri.h, in place of the library as it stands.
+# run.sh [ARCHIVE..]: counts the library's instructions beside those of plain C, prints the tables, in Markdown, and draws docs/benchmark.svg.
+# ARCHIVE: other archives with the functions of naustvri.h, in place of the library as it stands; their drawing goes to target/bench.
 . "$(dirname "$0")/../scripts/machine.sh"
 need_compiler
 need qemu-x86_64=qemu-user
-if [ $# = 0 ]; then
-    archive=$(library)
-    set -- "$archive"
-fi
 bench=$repository/bench out=$repository/target/bench
 mkdir -p "$out"
+drawing=$out/benchmark.svg
+if [ $# = 0 ]; then
+    archive=$(library)
+    drawing=$repository/docs/benchmark.svg
+    set -- "$archive"
+fi
 clang_x86 -O3 -Wall -Wextra -I "$repository/include" -c -o "$out/plain.o" "$bench/plain.c"
 "$xcc" -O2 -Wall -Wextra -I "$repository/include" -static -no-pie -o "$out/bench" \
     "$bench/bench.c" "$bench/workload.c" "$bench/stack.c" "$out/plain.o" "$@"
@@ -27,4 +29,5 @@ for version in 1 2 3 4 5; do
 done
 [ -s "$out/marks" ] || die "qemu counted nothing: $(cat "$out/counter.log")"
 cmp "$out/rows" "$out/rows.counted"
-awk -f "$bench/table.awk" "$out/marks" "$out/rows"
+awk -f "$bench/counts.awk" -f "$bench/table.awk" "$out/marks" "$out/rows"
+awk -f "$bench/counts.awk" -f "$bench/drawing.awk" "$out/marks" "$out/rows" >"$drawing"

@@ -1,41 +1,9 @@
-# table.awk MARKS ROWS: joins the counter's marks with the rows that the benchmark wrote, and prints the tables.
+# table.awk, after counts.awk: prints the tables, in Markdown.
 BEGIN {
-    FS = "\t"
-    sizes = split("16 64 256", size, " ")
     budget["check, every part present"] = "2,600 / 10,000 / 55,000"
     budget["one event alone, mixed"] = "2,200 / 8,000 / 35,000"
     budget["mixed list, an event"] = "500 / 1,600 / 6,100"
 }
-
-FILENAME == ARGV[1] { mark[NR] = $1; next }
-
-$1 == "stack" {
-    if (!($2 in stack_seen)) { stack_order[++stacks] = $2; stack_seen[$2] = 1 }
-    stack[$2, $3] = $4
-    next
-}
-
-$1 == "answers" {
-    if (!($2 in answer_seen)) { answer_order[++lists] = $2; answer_seen[$2] = 1 }
-    if ($3 == size[sizes]) answers[$2] = answers[$2] (answers[$2] ? ", " : "") $5 " × " $4
-    next
-}
-
-{
-    instructions = mark[2 * ++pairs] - mark[2 * pairs - 1]
-    if ($1 == "nothing") { nothing = instructions; next }
-    if (!($1 in seen)) { order[++kinds] = $1; seen[$1] = 1; sized[$1] = $2 }
-    sum[$1, $2, $3] += instructions - nothing
-    events[$1, $2, $3] += $4
-}
-
-function thousands(n,   digits, out) {
-    digits = sprintf("%.0f", n)
-    while (length(digits) > 3) { out = "," substr(digits, length(digits) - 2) out; digits = substr(digits, 1, length(digits) - 3) }
-    return digits out
-}
-
-function cost(what, circuits, side) { return sum[what, circuits, side] / events[what, circuits, side] }
 
 function at_sizes(what, side,   i, out) {
     for (i = 1; i <= sizes; i++) out = out (i > 1 ? " / " : "") thousands(cost(what, size[i], side))
