@@ -2,7 +2,7 @@
 # demo.sh: 01's table of two free circuits and its nine events, in a folder of their own: the lamps before and after the events, and
 # decide's line for each.
 . "$(dirname "$0")/machine.sh"
-echo "demo: the two programs are proved, crate by crate, and linked; what is proved already is not proved again" >&2
+echo "demo: proves the two programs, crate by crate, and links them; some minutes where nothing is proved yet" >&2
 (cd "$repository" && "$rt" check decide panel 2>&1) | sed -un 's/^rt: \(.* proved ([0-9]* s)\)$/demo: \1/p' >&2
 build_programs
 room=$(mktemp -d)
