@@ -1,6 +1,7 @@
 // A list of events applied to the table, and the lines of its answers.
 use events::ANSWER_SIZE;
 use events::MOST_EVENTS;
+use lines::event::MOST_LETTERS;
 ghost use mathlib.Core.Path.{_≡_};
 ghost use Prim.Native.Nat.{_+_, _*_, _≤_, _<_};
 ghost use lib.ListN.{length};
@@ -11,7 +12,7 @@ ghost use Rattle.lines.specs.Event.{line, mostLetters};
 ghost use Rattle.decide.specs.Listing.{lastNumber, room, listing};
 
 // Room for the lines of a list of most events, each of most letters: 4,096 times 65.
-pub const ROOM: usize = 266240;
+pub const ROOM: usize = MOST_EVENTS * MOST_LETTERS;
 
 // A text in which the lines of a list have room.
 pub fn space() -> [u8; ROOM]

@@ -3,19 +3,15 @@ mod listing;
 
 use events::EVENT_SIZE;
 use libc::STDIN_FILENO;
+use streams::FULL_LIST;
+use streams::TABLE_ROOM;
 ghost use Prim.Native.Nat.{_*_, _≤_, _<_};
 ghost use lib.ListN.{length};
 ghost use Rattle.rules.specs.Records.{eventSize, mostEvents};
 ghost use Rattle.decide.specs.Listing.{lastNumber};
 
-// The octets of a list of most events.
-const FULL_LIST: usize = 65536;
-
 // The list that comes after so many events is numbered in 64 bits: 2^64 less 4,096.
 const LAST_NUMBER: u64 = 18446744073709547520;
-
-// One octet more than the largest table, so that a longer file is seen.
-const TABLE_SPACE: usize = 8193;
 
 // One list, as lines on standard output, after so many events that were answered before; whether they were written.
 fn print_list(before: u64, table: &mut [u8], events: &[u8]) -> bool
@@ -66,7 +62,7 @@ fn header() -> bool {
 }
 
 fn main() {
-    let mut space = [0u8; TABLE_SPACE];
+    let mut space = [0u8; TABLE_ROOM];
     let n = streams::table(&mut space);
     if n == 0 {
         return;

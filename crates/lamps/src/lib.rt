@@ -1,10 +1,11 @@
 // The lamp map: four words of 64 lamps, lit where a circuit is free, and the number lit.
+use rules::number;
 use rules::search::Found;
 ghost use mathlib.Core.Path.{_≡_};
 ghost use mathlib.Core.Bool.{cond};
 ghost use Prim.Native.Nat.{_-_, _≤_, _<_, min};
 ghost use Rattle.lamps.specs.Lamps.{litAt, word, numberIn, lowestIn, litMap, darkMap, lampMap};
-ghost use Rattle.rules.specs.Records.{circuits};
+ghost use Rattle.rules.specs.Records.{circuits, mostCircuits};
 
 #[repr(C)]
 pub struct Lamps {
@@ -74,13 +75,13 @@ pub fn lowest(words: [u64; 4]) -> Found
 
 // The lamps of a table.
 fn lit_map(t: &[u8]) -> Lamps
-    requires { ⌜ circuits (now t) ≤ 256 ⌝ }
+    requires { ⌜ circuits (now t) ≤ mostCircuits ⌝ }
     ensures { λ r. ⌜ r ≡ litMap (now (t .entry)) ⌝ }
 {
     let words = [word(t, 0), word(t, 1), word(t, 2), word(t, 3)];
     let lit = number_in(words);
     Lamps {
-        number: 0,
+        number: number::DONE,
         lit,
         words,
     }
@@ -103,7 +104,7 @@ pub fn map(t: &[u8]) -> Lamps
     ensures { λ r. ⌜ r ≡ lampMap (now (t .entry)) ⌝ }
 {
     let number = validity::check(t);
-    if number != 0 {
+    if number != number::DONE {
         return dark(number);
     }
     lit_map(t)

@@ -1,21 +1,14 @@
 // The lamp map of the table in circuits.bin, and again after the events on standard input.
 use events::EVENT_SIZE;
-use events::MOST_EVENTS;
 use libc::STDIN_FILENO;
 use lines::panel::MOST_LETTERS;
+use streams::FULL_LIST;
+use streams::TABLE_ROOM;
 use streams::Taken;
-use table::CIRCUIT_SIZE;
-use table::MOST_CIRCUITS;
 ghost use Prim.Native.Nat.{_≤_};
 ghost use Rattle.lines.specs.Text.{Written};
 ghost use Rattle.lines.specs.Panel.{mostLetters};
 ghost use Rattle.panel.specs.Drawn.{panel};
-
-// The room for the table's file: one octet more than the largest table has, so that a longer file is seen to be too long.
-const TABLE_ROOM: usize = CIRCUIT_SIZE * MOST_CIRCUITS + 1;
-
-// The octets of a full list.
-const FULL_LIST: usize = EVENT_SIZE * MOST_EVENTS;
 
 // The panel of a table, as text.
 fn drawn(table: &[u8], text: &mut [u8]) -> usize

@@ -1,9 +1,18 @@
 // Where the programs' octets come from and go to: the table file, standard input, standard output.
 use events::EVENT_SIZE;
+use events::MOST_EVENTS;
 use rules::number::DONE;
+use table::CIRCUIT_SIZE;
+use table::MOST_CIRCUITS;
 ghost use Prim.Native.Nat.{_≤_};
 ghost use lib.ListN.{length};
 ghost use Rattle.streams.specs.Table.{Checked};
+
+// Room for the table file: one octet more than the largest table has, so that a longer file is seen to be too long.
+pub const TABLE_ROOM: usize = CIRCUIT_SIZE * MOST_CIRCUITS + 1;
+
+// The octets of a full list.
+pub const FULL_LIST: usize = EVENT_SIZE * MOST_EVENTS;
 
 // Room for a line that stands alone.
 const LINE: usize = 64;

@@ -7,7 +7,7 @@ use rules::mark::Mark;
 
 // Writes the circuit that a call of some level and domain gets.
 fn chosen(row: [u8; ROW], t: &[u8]) {
-    let level = Level(row[0]);
+    let level = Level::in_record(row[0]);
     let domain = octets::read_five(&row, 1);
     text::found(choice::choose(t, Mark { level, domain }));
 }
@@ -30,6 +30,12 @@ fn lamp_map(t: &[u8]) {
     text::word(words[1]);
     text::word(words[0]);
     text::found(lamps::lowest(words));
+}
+
+// Writes the numbers of the five levels.
+fn levels() {
+    let numbers = Level::numbers();
+    text::octets(&numbers);
 }
 
 // Writes what the check gives for the first n octets of a table.
@@ -74,6 +80,7 @@ fn answer(letter: u8, row: [u8; ROW], count: usize, t: &[u8]) {
         b'G' => chosen(row, t),
         b'W' => stands(row, t),
         b'X' => changed(row, count, t),
+        b'N' => levels(),
         _ => lamp_map(t),
     }
 }
