@@ -1,4 +1,5 @@
--- The customer's two accidents, which cannot happen: a mark left on a circuit whose party is gone, and a reservation gone for no reason; nor is a holder gone for none; and no call in two places.
+-- The customer's two accidents, which cannot happen: a mark left on a circuit whose party is gone, and a reservation gone for no reason;
+-- nor is a holder gone for none; and no call in two places.
 use Prim.Native.Nat.{ℕ, _+_, _*_, _-_, _%_, _<_, _≤_}
 use mathlib.Core.Path.{_≡_}
 use mathlib.Core.Logic.{_⊎_}

@@ -1,4 +1,5 @@
--- The history: who holds and who has reserved each circuit, under which mark and since which clock, from the past events and their answers alone. It looks at no table.
+-- The history: who holds and who has reserved each circuit, under which mark and since which clock, from the past events and their
+-- answers alone. It looks at no table.
 use Prim.Native.Nat.{ℕ, _+_, _-_, _%_}
 use mathlib.Core.Bool.{Bool, true, cond, _&&_, _||_}
 use mathlib.Core.List.{List, [], _∷_}

@@ -81,5 +81,6 @@ RefusedList =
 -- "The fields at 4 and 10 are filled for answers 2 and 4 only": else they are zero
 abbrev pub OnlyTwoAndFour : Type 0
 OnlyTwoAndFour =
-    (t e place : List ℕ) → eventNumber t e place ≢ number.seizedWithLoss → eventNumber t e place ≢ number.reservedWithLoss → eventNumber t e place ≢ number.wrongLength
+    (t e place : List ℕ) → eventNumber t e place ≢ number.seizedWithLoss
+    → eventNumber t e place ≢ number.reservedWithLoss → eventNumber t e place ≢ number.wrongLength
     → (lostCall (eventAnswer t e place) ≡ nobodyLost) × (lostReservation (eventAnswer t e place) ≡ nobodyLost)

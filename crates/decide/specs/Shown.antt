@@ -1,7 +1,8 @@
 -- 01, "The program and its whole output": its nine events over its table of 64 zero octets give its listing, letter for letter.
 use Prim.Native.Nat.{_-_}
 use mathlib.Core.Path.{_≡_, refl}
-use mathlib.Core.List.{flatten}
+use Prim.Native.Nat.{ℕ}
+use mathlib.Core.List.{List, _++_, flatten}
 use lib.ListN.{replicate}
 use Rattle.rules.specs.Fields.{decimal, parameterOk, pointCodeOk}
 use Rattle.rules.specs.Circuit.{takeable, worth, rank}
@@ -21,6 +22,22 @@ use Rattle.lines.specs.Event.{party, line}
 use Rattle.decide.specs.Listing.{listing}
 use Rattle.decide.specs.Output.{answersTo, output}
 
-pub shown : output (replicate 64 0) (flatten paper.listing) ≡ letters "event answer cause number call reservation\n1 1 0 0 - -\n2 3 0 1 - -\n3 2 0 0 1/1 -\n4 31 46 - - -\n5 27 0 - - -\n6 7 0 0 - -\n7 7 0 1 - -\n8 1 0 1 - -\n9 30 34 - - -\n"
-unfolding flatten immediate priority event setsUp releases looksAhead ticks paper.listing answerRecord answered after effect outcomeOf decision setUp lookAhead release cancel onReservation choice heldBy reservedBy rank worth takeable answerOf valid verdict recordVerdict repeated levelsOk fieldsOk pairOk decimal pointCodeOk wellFormed parameterOk records putCircuit flagsAt blankAt checkNumber tableLength eventsIn answersTo output decimalIn valuesOf party line listing
+abbrev pub listed : List ℕ
+listed =
+    letters "event answer cause number call reservation\n"
+    ++ letters "1 1 0 0 - -\n"
+    ++ letters "2 3 0 1 - -\n"
+    ++ letters "3 2 0 0 1/1 -\n"
+    ++ letters "4 31 46 - - -\n"
+    ++ letters "5 27 0 - - -\n"
+    ++ letters "6 7 0 0 - -\n"
+    ++ letters "7 7 0 1 - -\n"
+    ++ letters "8 1 0 1 - -\n"
+    ++ letters "9 30 34 - - -\n"
+
+pub shown : output (replicate 64 0) (flatten paper.listing) ≡ listed
+unfolding flatten immediate priority event setsUp releases looksAhead ticks paper.listing answerRecord answered after effect
+    outcomeOf decision setUp lookAhead release cancel onReservation choice heldBy reservedBy rank worth takeable answerOf valid
+    verdict recordVerdict repeated levelsOk fieldsOk pairOk decimal pointCodeOk wellFormed parameterOk records putCircuit flagsAt
+    blankAt checkNumber tableLength eventsIn answersTo output decimalIn valuesOf party line listing
 shown = refl

@@ -37,7 +37,10 @@ fn act(t: &mut [u8], e: Event, a: Act, i: usize)
 // The reservation on circuit i, removed if it is overdue.
 fn relieve(t: &mut [u8], e: Event, i: usize)
     requires { ⌜ i < circuits (now t) ⌝ }
-    ensures { λ _. ⌜ now (t .exit) ≡ cond (overdue (e .clock) (circuitAt (now (t .entry)) i)) (putCircuit (now (t .entry)) i (made e Act.Cancel (circuitAt (now (t .entry)) i))) (now (t .entry)) ⌝ }
+    ensures table { λ _. ⌜ now (t .exit)
+        ≡ cond (overdue (e .clock) (circuitAt (now (t .entry)) i))
+        (putCircuit (now (t .entry)) i (made e Act.Cancel (circuitAt (now (t .entry)) i)))
+        (now (t .entry)) ⌝ }
 {
     if table::circuit_at(t, i).overdue(e.clock) {
         renew(t, e, Act::Cancel, i);

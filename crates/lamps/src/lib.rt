@@ -61,7 +61,7 @@ fn number_in(words: [u64; 4]) -> u16
 
 // The lowest lit lamp: in the first word that is not 0, the bit above its trailing zeros.
 pub fn lowest(words: [u64; 4]) -> Found
-    ensures { λ r. ⌜ r ≡ lowestIn words ⌝ }
+    ensures lamp { λ r. ⌜ r ≡ lowestIn words ⌝ }
 {
     let mut j = 0;
     while j < 4 {
@@ -101,7 +101,7 @@ fn dark(number: u8) -> Lamps
 
 // The map of a valid table; at 20 and 21 all is dark.
 pub fn map(t: &[u8]) -> Lamps
-    ensures { λ r. ⌜ r ≡ lampMap (now (t .entry)) ⌝ }
+    ensures reading { λ r. ⌜ r ≡ lampMap (now (t .entry)) ⌝ }
 {
     let number = validity::check(t);
     if number != number::DONE {

@@ -24,7 +24,7 @@ decimalIn (suc w) n = cond (ltb n 10) (digit n) (decimalIn w (n / 10) ++ digit (
 abbrev pub decimal : ℕ → List ℕ  -- any number of 64 bits
 decimal n = decimalIn 20 n
 
--- what digits say that stand behind those that said n
+-- what digits say that stand after those that said n
 abbrev pub says : ℕ → List ℕ → ℕ
 says n [] = n
 says n (d ∷ ds) = says (10 * n + (d - 48)) ds
@@ -32,7 +32,7 @@ says n (d ∷ ds) = says (10 * n + (d - 48)) ds
 abbrev pub ReadBack : Type 0  -- what is written is read again
 ReadBack = (n : ℕ) → n < 10 ^ 20 → says 0 (decimal n) ≡ n
 
--- the buffer is as it was but for the text from place at on, and what does not fit is left out; r is the place behind the text
+-- the buffer is as it was but for the text from place at on, and what does not fit is left out; r is the place after the text
 pub record Written (before : List ℕ) (at : ℕ) (text after : List ℕ) (r : ℕ) : Type 0 where
   pub content : after ≡ put before at text
   pub end : r ≡ at + length text

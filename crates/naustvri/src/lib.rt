@@ -16,7 +16,7 @@ const PATCH: u32 = 0;
 
 #[no_mangle]
 pub extern "C" fn naustvri_version() -> u32
-    ensures { λ r. ⌜ r ≡ version ⌝ }
+    ensures number { λ r. ⌜ r ≡ version ⌝ }
 {
     10000 * MAJOR + 100 * MINOR + PATCH
 }

@@ -252,7 +252,7 @@ fn number(v: Verdict) -> u8
 
 // 0 for a valid table, 20 for a wrong length, 21 for a table that is not valid.
 pub fn check(t: &[u8]) -> u8
-    ensures { λ r. ⌜ r ≡ checkNumber (now (t .entry)) ⌝ }
+    ensures number { λ r. ⌜ r ≡ checkNumber (now (t .entry)) ⌝ }
 {
     if !table::right_length(t.len()) {
         return number::WRONG_LENGTH;
