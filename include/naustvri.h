@@ -12,7 +12,7 @@
  *   Threads:   The caller must see to it that no other thread uses a buffer while a function writes it, and that none writes a buffer
  *              while a function reads it. Calls on different buffers may run at the same time.
  *   Alignment: The caller needs none: a buffer may be lent at any address.
- *   Padding:   The caller must compare two structs given back member by member, never by memcmp: between their members lie octets of
+ *   Padding:   The caller must compare two structs given back member by member, never by memcmp: between and after their members lie octets of
  *              any value.
  *   Version:   The caller must link the archive that the header belongs to: naustvri_version() == NAUSTVRI_VERSION.
  *

@@ -89,7 +89,7 @@ pub fn held_by(t: &[u8], reference: Reference) -> Found
     circuit_of(t, reference, 0)
 }
 
-// The circuit that it has reserved.
+// The circuit that the call with this reference has reserved.
 pub fn reserved_by(t: &[u8], reference: Reference) -> Found
     ensures { λ r. ⌜ r ≡ reservedBy (circuitAt (now (t .entry))) (circuits (now (t .entry))) reference ⌝ }
 {

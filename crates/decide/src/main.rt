@@ -10,10 +10,10 @@ ghost use lib.ListN.{length};
 ghost use Rattle.rules.specs.Records.{eventSize, mostEvents};
 ghost use Rattle.decide.specs.Listing.{lastNumber};
 
-// The list that comes after so many events is numbered in 64 bits: 2^64 less 4,096.
+// A list is taken only where fewer events than this came before it, so that every number fits in 64 bits: 2^64 less 4,096.
 const LAST_NUMBER: u64 = 18446744073709547520;
 
-// One list, as lines on standard output, after so many events that were answered before; whether they were written.
+// Writes the lines of one list, which comes after so many events, to standard output, and says whether they were written.
 fn print_list(before: u64, table: &mut [u8], events: &[u8]) -> bool
     requires { ⌜ length (now events) ≤ eventSize * mostEvents ⌝ }
     requires { ⌜ before < lastNumber ⌝ }

@@ -20,7 +20,7 @@ fn renew(t: &mut [u8], e: Event, a: Act, i: usize)
     table::store(t, i, c.made(e, a));
 }
 
-// The same where the record is in order: only the part that the act changes is written, since that is what most events cost.
+// Carries out an act on circuit i, whose record is in order: a set-up writes the circuit whole, any other act only the part that it changes.
 fn act(t: &mut [u8], e: Event, a: Act, i: usize)
     requires { ⌜ Ready (now t) (Outcome.Do a i) ⌝ }
     ensures { λ _. ⌜ now (t .exit) ≡ putCircuit (now (t .entry)) i (made e a (circuitAt (now (t .entry)) i)) ⌝ }

@@ -13,10 +13,10 @@ ghost use Rattle.octets.specs.Number.{Octets};
 ghost use Rattle.octets.specs.Span.{span, put};
 ghost use Rattle.rules.specs.Records.{eventSize, eventIn, markIn, referenceIn, eventAt, answerSize, answerOctets, answerIn, answerNumber, answerCause, answerDetail, lostCall, lostReservation};
 
-// The octets of an event.
+// How many octets an event has.
 pub const EVENT_SIZE: usize = 16;
 
-// The octets of an answer.
+// How many octets an answer has.
 pub const ANSWER_SIZE: usize = 16;
 
 // A list has at most these events.

@@ -14,7 +14,7 @@ pub struct Lamps {
     pub words: [u64; 4],
 }
 
-// A lamp as a digit.
+// The bit of a lamp: 1 where it is lit, else 0.
 fn digit(on: bool) -> u64
     ensures { λ r. ⌜ (r ≡ cond on 1 0) × (r < 2) ⌝ }
 {
@@ -46,7 +46,7 @@ fn word(t: &[u8], j: usize) -> u64
     w
 }
 
-// The number lit.
+// How many lamps are lit in four words.
 fn number_in(words: [u64; 4]) -> u16
     ensures { λ r. ⌜ r ≡ numberIn words ⌝ }
 {
@@ -87,7 +87,7 @@ fn lit_map(t: &[u8]) -> Lamps
     }
 }
 
-// Where there is no map.
+// The map where the check refuses the table: its number, and every lamp dark.
 fn dark(number: u8) -> Lamps
     ensures { λ r. ⌜ r ≡ darkMap number ⌝ }
 {

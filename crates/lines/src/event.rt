@@ -108,14 +108,14 @@ pub fn short(out: &mut [u8], n: u64) -> usize
     numbered(out, b"short ", n)
 }
 
-// The only line, where there is no table file.
+// The only line that there is where there is no table file.
 pub fn no_table(out: &mut [u8]) -> usize
     ensures { λ r. ⌜ Written (now (out .entry)) 0 rule.noTable (now (out .exit)) r ⌝ }
 {
     text::put(out, 0, b"no table\n")
 }
 
-// The only line, where the check refuses the table by this number.
+// The only line that there is where the check refuses the table by this number.
 pub fn bad_table(out: &mut [u8], number: u8) -> usize
     ensures { λ r. ⌜ Written (now (out .entry)) 0 (rule.badTable number) (now (out .exit)) r ⌝ }
     ensures { λ r. ⌜ r ≤ 41 ⌝ }

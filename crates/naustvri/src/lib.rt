@@ -1,4 +1,4 @@
-// What C and Rust link: the entries of the product, each thin over the one that it calls. The header is include/naustvri.h.
+// What C and Rust link: the entries of the product, each but the version thin over the one that it calls. The header is include/naustvri.h.
 ghost use mathlib.Core.Path.{_≡_};
 ghost use Rattle.rules.specs.Records.{checkNumber};
 ghost use Rattle.fields.specs.Precedence as precedence;

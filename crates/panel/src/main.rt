@@ -39,7 +39,7 @@ fn turn(table: &mut [u8]) -> Taken {
     taken
 }
 
-// The lists after the first, each of them full but the last; what the last one was.
+// Applies the lists after the first, each of them full but the last, and gives what was read for the last one.
 fn last(table: &mut [u8], first: Taken) -> Taken {
     let mut taken = first;
     let mut turns = u64::MAX;

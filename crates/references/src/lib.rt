@@ -28,14 +28,14 @@ fn spread(r: Reference) -> u64
     (low + 10368889 * wide(r[4])) * 1540483477
 }
 
-// Two bits of a word.
+// The two bits of its word that stand for a reference, by its spread number.
 fn bits(v: u64) -> u64
     ensures { λ r. ⌜ r ≡ bitsIn v ⌝ }
 {
     (1 << (v / 1048576 % 64)) | (1 << (v / 4294967296 % 64))
 }
 
-// The bits of a reference are set; whether they were.
+// Sets the bits of a reference, and says whether all of them were set before.
 fn set_bits(w: &mut [u64; 64], r: Reference) -> bool
     requires { ⌜ length (now w) ≡ 64 ⌝ }
     ensures { λ b. ⌜ b ≡ already (now (w .entry)) r ⌝ }
@@ -49,7 +49,7 @@ fn set_bits(w: &mut [u64; 64], r: Reference) -> bool
     new == old
 }
 
-// A part is noted; whether its reference may stand in an earlier one.
+// Notes a part that is present, and says whether its reference may stand in an earlier one.
 fn may_repeat(w: &mut [u64; 64], p: Part) -> bool
     requires { ⌜ length (now w) ≡ 64 ⌝ }
     ensures { λ b. ⌜ b ≡ p .present && already (now (w .entry)) (p .reference) ⌝ }
@@ -72,7 +72,7 @@ fn stands_on(t: &[u8], i: usize, r: Reference) -> bool
     reservation.is_of(r)
 }
 
-// It stands on a circuit below i.
+// The call with this reference stands on a circuit below i.
 fn stands_below(t: &[u8], i: usize, r: Reference) -> bool
     requires { ⌜ i ≤ circuits (now t) ⌝ }
     ensures { λ b. ⌜ b ≡ standsTo (circuitAt (now (t .entry))) r (2 * i) ⌝ }
@@ -101,7 +101,7 @@ fn note_holder(t: &[u8], w: &mut [u64; 64], i: usize) -> bool
     stands_below(t, i, r)
 }
 
-// The same of its reservation's, for which the holder's part is an earlier one.
+// Whether the reservation's reference of circuit i stands in an earlier part, its holder's included; it is noted.
 fn note_reservation(t: &[u8], w: &mut [u64; 64], i: usize) -> bool
     requires { ⌜ (i < circuits (now t)) × Seen (circuitAt (now t)) (now w) (2 * i + 1) ⌝ }
     ensures { λ b. ⌜ b ≡ repeated (circuitAt (now (t .entry))) (2 * i + 1) ⌝ }

@@ -78,7 +78,7 @@ fn list_lengths(t: usize, es: usize, places: usize) -> bool
     places == ANSWER_SIZE * n
 }
 
-// The first n events, one after another. The table is looked at once, since no event makes it valid or not valid.
+// Applies the first n events one after another. Whether the table is valid was asked once, before them, since no event changes that.
 fn each(t: &mut [u8], es: &[u8], places: &mut [u8], n: usize, intact: bool)
     requires { ⌜ circuits (now t) ≤ mostCircuits ⌝ }
     requires { ⌜ eventSize * n ≤ length (now es) ⌝ }

@@ -11,7 +11,7 @@ ghost use Rattle.streams.specs.Table.{Checked};
 // Room for the table file: one octet more than the largest table has, so that a longer file is seen to be too long.
 pub const TABLE_ROOM: usize = CIRCUIT_SIZE * MOST_CIRCUITS + 1;
 
-// The octets of a full list.
+// How many octets a full list has.
 pub const FULL_LIST: usize = EVENT_SIZE * MOST_EVENTS;
 
 // Room for a line that stands alone.
@@ -76,14 +76,14 @@ fn file(buffer: &mut [u8]) -> Taken
     taken
 }
 
-// The only line, where there is no table file.
+// Writes the only line that there is where there is no table file.
 fn no_table() {
     let mut text = [0u8; LINE];
     let n = lines::event::no_table(&mut text);
     write(&text[..n]);
 }
 
-// The only line, where the check refuses the table.
+// Writes the only line that there is where the check refuses the table.
 fn bad_table(number: u8) {
     let mut text = [0u8; LINE];
     let n = lines::event::bad_table(&mut text, number);

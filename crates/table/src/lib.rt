@@ -1,4 +1,5 @@
-// Circuits in the octets of a table: read, stored, and whether they are zero. No other code knows where a circuit's fields stand.
+// Circuits in the octets of a table: read, stored, and whether they are zero. No other code but the program `vectors` knows where a
+// circuit's fields stand.
 use rules::circuit::Circuit;
 use rules::level::Level;
 use rules::mark::Mark;
@@ -13,13 +14,13 @@ ghost use Rattle.octets.specs.Span.{put, zeros};
 ghost use Rattle.rules.specs.Valid.{partNumbered};
 ghost use Rattle.rules.specs.Records.{circuitSize, circuits, partAt, circuitAt, holderOctets, reservationOctets, spareOctets, partOctets, putCircuit, flagsAt, blankAt, tableLength};
 
-// The octets of a circuit.
+// How many octets a circuit has.
 pub const CIRCUIT_SIZE: usize = 32;
 
 // A table has at least one circuit, and at most these.
 pub const MOST_CIRCUITS: usize = 256;
 
-// The octets of a part, a reservation's clock aside.
+// How many octets a part has, a reservation's clock aside.
 const PART_SIZE: usize = 12;
 
 // Where the reservation's part stands in a circuit, then its clock, then the octets that belong to no part.

@@ -199,7 +199,7 @@ fn is_valid(v: Verdict) -> bool
     }
 }
 
-// Each record by itself, the lowest first.
+// The verdict on the records, each by itself: the first fault, from the lowest record on.
 fn each_record(t: &[u8]) -> Verdict
     ensures { λ r. ⌜ r ≡ recordsTo records (now (t .entry)) (circuits (now (t .entry))) ⌝ }
 {
@@ -215,7 +215,7 @@ fn each_record(t: &[u8]) -> Verdict
     Verdict::Valid
 }
 
-// No call reference stands in two parts.
+// The verdict on the references: the first that stands in an earlier part is a fault.
 fn each_reference(t: &[u8]) -> Verdict
     ensures { λ r. ⌜ r ≡ partsTo records (now (t .entry)) (circuits (now (t .entry))) ⌝ }
 {

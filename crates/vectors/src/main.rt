@@ -1,4 +1,4 @@
-// Both sides of every line of document 01: a script on standard input, written out again with the answer of each row after it.
+// Both sides of every line of document 01: a script on standard input, written out again with what each row answers after it.
 mod asked;
 mod field;
 mod scene;

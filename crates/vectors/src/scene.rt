@@ -161,7 +161,7 @@ fn more(n: usize, row: [u8; ROW], at: usize) -> usize
 }
 
 // Writes what a list gave back, and compares its answers with those to the events one by one.
-fn told(number: u8, places: &[u8; LIST], answers: &[u8], n: usize) {
+fn list_answered(number: u8, places: &[u8; LIST], answers: &[u8], n: usize) {
     text::put(b"=");
     text::number(number as u64);
     said(
@@ -196,7 +196,7 @@ fn list(now: Scene, row: [u8; ROW], table: &[u8], twin: &mut [u8], events: &[u8]
         return;
     }
     let number = route::list(&mut twin[0..t], &events[0..e], &mut places[0..a]);
-    told(number, &places, answers, n);
+    list_answered(number, &places, answers, n);
     said(
         same(twin, table, t),
         b", the same table\n",
