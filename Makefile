@@ -1,8 +1,8 @@
 #                     minutes, on two cores
-# make test           10 to 20   the gate: proofs, wrong edits, outside tests; its last line is 'N passed, 0 failed'
+# make test           10 to 30   the gate: proofs, wrong edits, outside tests; its last line is 'N passed, 0 failed'
 # make demo           2 to 4     the lamp panel and the program on 01's nine events, on one screen; seconds where they are proved
 # make bench          2 to 4     the library's instructions beside those of plain C, in tables and docs/benchmark.svg; 1 where it is proved
-# make edits          10 to 20   every wrong edit, the gate's and more
+# make edits          15 to 40   every wrong edit, the gate's and more
 # make planted        1          errors planted in a stand-in for the library, each of which the outside tests find
 # make soak           10         the outside tests on ever other cases, with the seed of any difference; SECONDS=600, SEED=1
 # make install        2 to 4     header, archive, programs, man pages and handbook, for hosts to use; PREFIX=/usr/local, DESTDIR=
