@@ -1,22 +1,23 @@
--- Of a record in order no reason applies.
+-- A record is in order just when no reason applies to it.
 use Prim.Native.Nat.{ℕ, _+_, _*_, _<_}
 use mathlib.Core.Path.{_≡_, sym, ap, _∙_}
-use mathlib.Core.Bool.{Bool, true, false, cond, _&&_, _||_, not}
+use mathlib.Core.Bool.{Bool, true, false, cond, _&&_, _||_, not, true≢false}
 use mathlib.Core.List.{List, []}
 use native.Mathlib.Omega.{arith}
 use lib.ListN.{getD}
 use lib.Dec.{eqb, leb}
 use borrow.Author.Tests.{eqb-true, le-leb}
 use Rattle.octets.specs.Span.{span, zeros}
-use Rattle.octets.proofs.Tests.{and-left, and-right, and-both, by-so}
+use Rattle.octets.proofs.Tests.{and-left, and-right, and-both, by-so, not-so}
 use Rattle.octets.proofs.Spans.{agree-first, zeros-agree}
 use Rattle.rules.specs.declared.verdict.Reason.the-variants.{FlagOrLevel, DigitOrPointCode, NotZero, NotAbove}
 use Rattle.rules.specs.declared.verdict.Verdict.the-variants.{Valid, Fault}
 use Rattle.rules.specs.Fields.{levelOk, decimal, pointCodeOk}
-use Rattle.rules.specs.Valid.{ifPresent, levelsOk, fieldsOk, recordVerdict}
+use Rattle.rules.specs.Valid.{ifPresent, levelsOk, fieldsOk, isValid, recordVerdict}
 use Rattle.rules.specs.declared.part.Part.{Part}
 use Rattle.rules.specs.Records.{circuitSize, partAt, circuitAt, holderOctets, reservationOctets, spareOctets, flagsAt, zeroIfAbsent, blankAt, records}
-use Rattle.validity.specs.Order.{partInOrder, inOrder}
+use Rattle.rules.proofs.Faults.{record-facts}
+use Rattle.validity.specs.Order.{partInOrder, inOrder, outOfOrder}
 
 module _ (t : List ℕ) (o w : ℕ) where
   abbrev part : Part  -- the part of w octets from place o on
@@ -31,9 +32,20 @@ module _ (t : List ℕ) (o w : ℕ) where
   abbrev zero : Bool
   zero = zeros (span t o w)
 
+  abbrev flag : Bool
+  flag = leb (getD t o 0) 1
+
+  abbrev levelled : Bool
+  levelled = ifPresent part levels
+
+  abbrev fielded : Bool
+  fielded = ifPresent part fields
+
+  abbrev blank : Bool
+  blank = zeroIfAbsent part (span t o w)
+
   abbrev Apart : Type 0
-  Apart =
-      (leb (getD t o 0) 1 ≡ true) × (ifPresent part levels ≡ true) × (ifPresent part fields ≡ true) × (zeroIfAbsent part (span t o w) ≡ true)
+  Apart = (flag ≡ true) × (levelled ≡ true) × (fielded ≡ true) × (blank ≡ true)
 
   -- what the reasons ask of a part, one by one
   apart : 0 < w → partInOrder part (span t o w) ≡ true → Apart
@@ -61,7 +73,19 @@ module _ (t : List ℕ) (o w : ℕ) where
             ap (λ (b : Bool). cond b true zero) e ∙ by e,
           )
 
-pub in-order-valid : (t : List ℕ) (i : ℕ) → inOrder t i ≡ true → recordVerdict records t i ≡ Valid
+  -- and what is so one by one is so together
+  together : Apart → partInOrder part (span t o w) ≡ true
+  together h = by-so (part .present) here absent
+    where
+      here : part .present ≡ true → partInOrder part (span t o w) ≡ true
+      here e =
+          ap (λ (b : Bool). cond b (levels && fields) zero) e
+          ∙ and-both levels fields (sym (ap (λ (b : Bool). not b || levels) e) ∙ h .1) (sym (ap (λ (b : Bool). not b || fields) e) ∙ h .2)
+
+      absent : part .present ≡ false → partInOrder part (span t o w) ≡ true
+      absent e = ap (λ (b : Bool). cond b (levels && fields) zero) e ∙ (sym (ap (λ (b : Bool). cond b true zero) e) ∙ h .3)
+
+in-order-valid : (t : List ℕ) (i : ℕ) → inOrder t i ≡ true → recordVerdict records t i ≡ Valid
 unfolding inOrder recordVerdict records levelsOk fieldsOk flagsAt blankAt
 in-order-valid t i h =
     let c = circuitAt t i in
@@ -80,3 +104,31 @@ in-order-valid t i h =
     (cond (not (fielded j)) (Fault DigitOrPointCode i)
     (cond (not (blank j)) (Fault NotZero i)
     (cond (not (pair j)) (Fault NotAbove i) Valid)))
+
+valid-in-order : (t : List ℕ) (i : ℕ) → isValid (recordVerdict records t i) ≡ true → inOrder t i ≡ true
+unfolding inOrder records levelsOk fieldsOk flagsAt blankAt
+valid-in-order t i h =
+    let f = record-facts records t i h in
+    let o = circuitSize * i in
+    let q = o + 12 in
+    let rest = and-right (blank t o 12) (blank t q 16 && zeros (spareOctets t i)) (f .3) in
+    let a : Apart t o 12 = (
+      and-left (flag t o 12) (flag t q 16) (f .0),
+      and-left (levelled t o 12) (levelled t q 16) (f .1),
+      and-left (fielded t o 12) (fielded t q 16) (f .2),
+      and-left (blank t o 12) _ (f .3),
+    ) in
+    let b : Apart t q 16 = (
+      and-right (flag t o 12) (flag t q 16) (f .0),
+      and-right (levelled t o 12) (levelled t q 16) (f .1),
+      and-right (fielded t o 12) (fielded t q 16) (f .2),
+      and-left (blank t q 16) _ rest,
+    ) in
+    and-both _ _ (together t o 12 a) (and-both _ _ (together t q 16 b) (and-both _ _ (and-right (blank t q 16) _ rest) (f .4)))
+
+pub out-of-order : (t : List ℕ) (i : ℕ) → outOfOrder t i ≡ not (isValid (recordVerdict records t i))
+out-of-order t i =
+    ap not
+    (by-so (inOrder t i)
+    (λ e. e ∙ sym (ap isValid (in-order-valid t i e)))
+    (λ e. e ∙ sym (not-so _ (λ f. true≢false (sym (valid-in-order t i f) ∙ e)))))

@@ -1,6 +1,6 @@
 -- A record in order, part by part: the same tests as a verdict's, in the order in which they are quick.
 use Prim.Native.Nat.{ℕ}
-use mathlib.Core.Bool.{Bool, cond, _&&_}
+use mathlib.Core.Bool.{Bool, cond, _&&_, not}
 use mathlib.Core.List.{List}
 use Rattle.octets.specs.Span.{zeros}
 use Rattle.rules.specs.declared.part.Part.{Part}
@@ -19,3 +19,6 @@ inOrder t i =
     partInOrder (circuitAt t i .holder) (holderOctets t i)
     && (partInOrder (circuitAt t i .reservation) (reservationOctets t i)
     && (zeros (spareOctets t i) && pairOk (circuitAt t i)))
+
+abbrev pub outOfOrder : List ℕ → ℕ → Bool  -- record i is not in order
+outOfOrder t i = not (inOrder t i)

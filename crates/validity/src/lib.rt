@@ -13,9 +13,10 @@ ghost use Prim.Native.Nat.{_+_, _/_, _<_, _≤_};
 ghost use lib.ListN.{length};
 ghost use Rattle.rules.specs.Fields.{levelOk, decimal, pointCodeOk};
 ghost use Rattle.rules.specs.Valid.{ifPresent, levelsOk, fieldsOk, pairOk, isValid, verdictNumber, recordVerdict, recordsTo, partsTo};
+ghost use Rattle.rules.specs.Search.{firstTo};
 ghost use Rattle.rules.specs.Valid as rule;
 ghost use Rattle.rules.specs.Records.{circuitAt, circuits, flagsAt, records, checkNumber, holderOctets, reservationOctets};
-ghost use Rattle.validity.specs.Order.{partInOrder, inOrder};
+ghost use Rattle.validity.specs.Order.{partInOrder, inOrder, outOfOrder};
 ghost use Rattle.validity.specs.Order as order;
 
 // A part is absent, or its level is one of the five.
@@ -177,18 +178,6 @@ fn in_order(t: &[u8], i: usize) -> bool
     pair_ok(table::circuit_at(t, i))
 }
 
-// The verdict on record i, given at once where the record is in order.
-fn judge(t: &[u8], i: usize) -> Verdict
-    requires { ⌜ i < circuits (now t) ⌝ }
-    ensures { λ r. ⌜ r ≡ recordVerdict records (now (t .entry)) i ⌝ }
-{
-    if in_order(t, i) {
-        Verdict::Valid
-    } else {
-        record(t, i)
-    }
-}
-
 // A verdict is no fault.
 fn is_valid(v: Verdict) -> bool
     ensures { λ r. ⌜ r ≡ isValid v ⌝ }
@@ -199,20 +188,29 @@ fn is_valid(v: Verdict) -> bool
     }
 }
 
-// The verdict on the records, each by itself: the first fault, from the lowest record on.
-fn each_record(t: &[u8]) -> Verdict
-    ensures { λ r. ⌜ r ≡ recordsTo records (now (t .entry)) (circuits (now (t .entry))) ⌝ }
+// The lowest record that is not in order.
+fn first_out_of_order(t: &[u8]) -> Found
+    ensures { λ r. ⌜ r ≡ firstTo (outOfOrder (now (t .entry))) (circuits (now (t .entry))) ⌝ }
 {
     let n = table::count(t);
     let mut i = 0;
     while i < n {
-        let v = judge(t, i);
-        if !is_valid(v) {
-            return v;
+        if !in_order(t, i) {
+            return Found::At(i);
         }
         i += 1;
     }
-    Verdict::Valid
+    Found::Nothing
+}
+
+// The verdict on the records, each by itself: that on the lowest that is not in order.
+fn each_record(t: &[u8]) -> Verdict
+    ensures { λ r. ⌜ r ≡ recordsTo records (now (t .entry)) (circuits (now (t .entry))) ⌝ }
+{
+    match first_out_of_order(t) {
+        Found::At(i) => record(t, i),
+        Found::Nothing => Verdict::Valid,
+    }
 }
 
 // The verdict on the references: the first that stands in an earlier part is a fault.

@@ -1,60 +1,44 @@
--- The loop has passed no fault.
-use Prim.Native.Nat.{_≤_, _-_}
-use mathlib.Core.Path.{_≡_, refl, sym, ap, _∙_}
-use native.Mathlib.Omega.{arith}
-use native.Mathlib.Numerals.{add-one}
+-- What follows from the first record out of order.
+use Prim.Native.Nat.{ℕ}
+use mathlib.Core.Path.{_≡_, sym, ap, _∙_, subst}
+use mathlib.Core.List.{List}
 use denote.Ref.{now}
 use borrow.Author.Needs.{needs}
-use borrow.Author.Tests.{not-true, not-false}
+use Rattle.rules.specs.declared.search.Found.{Found}
 use Rattle.rules.specs.declared.verdict.Verdict.the-variants.{Valid}
-use Rattle.rules.specs.Valid.{isValid, recordsTo}
+use Rattle.rules.specs.Search.{firstTo, found}
+use Rattle.rules.specs.Valid.{recordVerdict, recordsTo}
 use Rattle.rules.specs.Records.{records, circuits}
-use Rattle.validity.proofs.Faults.{no-fault, records-more, first-fault}
+use Rattle.rules.proofs.Searches.{FirstIs, first-is}
+use Rattle.validity.specs.Order.{outOfOrder}
+use Rattle.validity.proofs.Faults.{first-fault}
+use Rattle.validity.proofs.Orders.{out-of-order}
 use Rattle.validity.proofs.each_record.Statement.{statement}
 use Rattle.validity.proofs.each_record.Tie as tie
 
-abbrev Inv-loop : tie.InvT-loop
-Inv-loop t n i₀ i = (i ≤ n) × (recordsTo records t i ≡ Valid) × (n ≡ circuits t)
+-- the verdict on the records follows from the search
+follows : (t : List ℕ) (r : Found) → r ≡ firstTo (outOfOrder t) (circuits t) → found r (recordVerdict records t) Valid ≡ recordsTo records t (circuits t)
+follows t r e =
+    ap (λ (f : Found). found f (recordVerdict records t) Valid) e ∙ sym (first-fault records t (outOfOrder t) (out-of-order t) (circuits t))
 
-abbrev μ-loop : tie.MeasureT-loop
-μ-loop t n i₀ i = n - i
+below : tie.Need-record-requires
+below c κs =
+    let first = c .before .before .before in
+    let t = now (first .before .before .args .t) in
+    let is = first-is (outOfOrder t) (circuits t) in
+    subst (FirstIs (outOfOrder t) (circuits t)) (sym (first .first-out-of-order .ensures) ∙ c .before .i .given .1) is .0
 
-faulty : tie.Need-returns Inv-loop μ-loop
+faulty : tie.Need-returns
 faulty c =
-    let four = c .before .before .before .before in
-    let t = now (four .before .before .before .args .t) in
-    let v = c .before .before .judge .ensures in
-    v
-    ∙ sym (first-fault records t (circuits t) (four .loop .i) (omega arith) (four .loop .inv .1) (ap isValid (sym v) ∙ sym (c .before .is-valid .ensures) ∙ not-true _ (c .if1 .taken)))
+    let first = c .before .before .before .before in
+    c .record .ensures ∙ follows (now (first .before .before .args .t)) _ (sym (c .before .before .i .given .1) ∙ first .first-out-of-order .ensures)
 
-again : tie.Need-loop-again Inv-loop μ-loop
-again c =
-    let four = c .before .before .before .before in
-    let t = now (four .before .before .before .args .t) in
-    let v = c .before .before .judge .ensures in (
-      omega arith,
-      ap (recordsTo records t) (add-one (four .loop .i)) ∙ records-more records t (four .loop .i) (four .loop .inv .1) (sym v ∙ no-fault _ (sym (c .before .is-valid .ensures) ∙ not-false _ (c .if1 .left))),
-      four .loop .inv .2,
-    )
-
-none : tie.Need-returns-2 Inv-loop μ-loop
+none : tie.Need-returns-2
 none c =
-    let t = now (c .before .before .before .before .args .t) in
-    let done : c .before .loop .i ≡ circuits t = omega arith in
-    sym (ap (recordsTo records t) (sym done) ∙ c .before .loop .inv .1)
+    let first = c .before .before in
+    follows (now (first .before .before .args .t)) _ (sym (c .enum-told .given .1) ∙ first .first-out-of-order .ensures)
 
 pub each-record-spec : {M : Type 1} → statement M
 each-record-spec =
     tie.close
-    (tie.spec
-    Inv-loop
-    μ-loop
-    (λ c κs. search needs)
-    (λ c. (omega arith, refl, c .count .ensures))
-    (λ c κs. omega arith)
-    (λ c κs. search needs)
-    faulty
-    (λ c. omega arith)
-    (λ c. omega arith)
-    again
-    none)
+    (tie.spec (λ c κs. search needs) (λ c. search needs) below (λ c. search needs) faulty none)
