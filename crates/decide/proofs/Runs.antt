@@ -32,31 +32,31 @@ module _ {A : Type 0} where
         ap₂ (λ (p : List A) (a : List ℕ). p ++ f k a) (start k (omega arith))
         (span-cong (first ++ second) (16 * k) first (16 * k) 16 (λ j b. List·getD-append first second 0 (16 * k + j) (omega arith)))
 
-    behind : (n k : ℕ) → 16 * n ≡ length first → pieces f (first ++ second) (n + k) ≡ pieces f first n ++ pieces (λ i. f (n + i)) second k
-    behind n zero e =
+    appended : (n k : ℕ) → 16 * n ≡ length first → pieces f (first ++ second) (n + k) ≡ pieces f first n ++ pieces (λ i. f (n + i)) second k
+    appended n zero e =
         ap (pieces f (first ++ second)) (add-zero n) ∙ start n (omega arith) ∙ sym (append-nil (pieces f first n))
-    behind n (suc k) e =
+    appended n (suc k) e =
         let place : (j : ℕ) → 16 * (n + k) + j ≡ length first + (16 * k + j) = λ j. omega arith in
         let record-at : span (first ++ second) (16 * (n + k)) 16 ≡ span second (16 * k) 16 = span-cong (first ++ second) (16 * (n + k)) second (16 * k) 16 (λ j l. ap (λ (i : ℕ). getD (first ++ second) i 0) (place j) ∙ getD-append-add first second (16 * k + j) 0) in
-        ap (pieces f (first ++ second)) (add-suc n k) ∙ ap₂ (λ (p : List A) (a : List ℕ). p ++ f (n + k) a) (behind n k e) record-at
+        ap (pieces f (first ++ second)) (add-suc n k) ∙ ap₂ (λ (p : List A) (a : List ℕ). p ++ f (n + k) a) (appended n k e) record-at
         ∙ append-assoc (pieces f first n) (pieces (λ i. f (n + i)) second k) (f (n + k) (span second (16 * k) 16))
 
 both-whole : (first second : List ℕ) → length first % 16 ≡ 0 → length (first ++ second) / 16 ≡ length first / 16 + length second / 16
 both-whole first second e = omega (arith, length-append first second)
 
 -- ---- lines, and their numbers
-abbrev lineBehind : ℕ → ℕ → List ℕ → List ℕ
-lineBehind before k a = line (before + suc k) a
+abbrev lineAfter : ℕ → ℕ → List ℕ → List ℕ
+lineAfter before k a = line (before + suc k) a
 
-lines-pieces : (before : ℕ) (s : List ℕ) (k : ℕ) → listingTo before s k ≡ pieces (lineBehind before) s k
+lines-pieces : (before : ℕ) (s : List ℕ) (k : ℕ) → listingTo before s k ≡ pieces (lineAfter before) s k
 lines-pieces before s zero = refl
 lines-pieces before s (suc k) = ap (λ (l : List ℕ). l ++ line (before + suc k) (span s (16 * k) 16)) (lines-pieces before s k)
 
-lines-behind : (before n : ℕ) (s : List ℕ) (k : ℕ) → pieces (λ i. lineBehind before (n + i)) s k ≡ listingTo (before + n) s k
-lines-behind before n s zero = refl
-lines-behind before n s (suc k) =
+lines-after : (before n : ℕ) (s : List ℕ) (k : ℕ) → pieces (λ i. lineAfter before (n + i)) s k ≡ listingTo (before + n) s k
+lines-after before n s zero = refl
+lines-after before n s (suc k) =
     let number : before + suc (n + k) ≡ before + n + suc k = omega arith in
-    ap₂ (λ (l : List ℕ) (m : ℕ). l ++ line m (span s (16 * k) 16)) (lines-behind before n s k) number
+    ap₂ (λ (l : List ℕ) (m : ℕ). l ++ line m (span s (16 * k) 16)) (lines-after before n s k) number
 
 pub running-on : RunningOn
 unfolding listing
@@ -64,8 +64,8 @@ running-on before first second e =
     let n = length first / 16 in
     let k = length second / 16 in
     ap (listingTo before (first ++ second)) (both-whole first second e) ∙ lines-pieces before (first ++ second) (n + k)
-    ∙ behind (lineBehind before) first second n k (omega arith)
-    ∙ ap₂ (λ (l m : List ℕ). l ++ m) (sym (lines-pieces before first n)) (lines-behind before n second k)
+    ∙ appended (lineAfter before) first second n k (omega arith)
+    ∙ ap₂ (λ (l m : List ℕ). l ++ m) (sym (lines-pieces before first n)) (lines-after before n second k)
 
 -- ---- events
 events-pieces : (s : List ℕ) (k : ℕ) → eventsTo s k ≡ pieces (λ _ e. e ∷ []) s k
@@ -78,7 +78,7 @@ events-append first second e =
     let n = length first / 16 in
     let k = length second / 16 in
     ap (eventsTo (first ++ second)) (both-whole first second e) ∙ events-pieces (first ++ second) (n + k)
-    ∙ behind (λ _ e. e ∷ []) first second n k (omega arith)
+    ∙ appended (λ _ e. e ∷ []) first second n k (omega arith)
     ∙ ap₂ (λ (l m : List (List ℕ)). l ++ m) (sym (events-pieces first n)) (sym (events-pieces second k))
 
 flatten-append : (a b : List (List ℕ)) → flatten (a ++ b) ≡ flatten a ++ flatten b

@@ -14,7 +14,7 @@ count-cong f g zero h = refl
 count-cong f g (suc n) h =
     ap₂ (λ (m : ℕ) (b : Bool). m + cond b 1 0) (count-cong f g n (λ j l. h j (omega arith))) (h n (omega arith))
 
--- the first m, and the k behind them
+-- the first m, and the k after them
 pub count-split : (f : ℕ → Bool) (m k : ℕ) → countTo f (m + k) ≡ countTo f m + countTo (λ i. f (m + i)) k
 count-split f m zero = ap (countTo f) (add-zero m) ∙ sym (add-zero (countTo f m))
 count-split f m (suc k) =

@@ -1,4 +1,4 @@
--- Its octets, and behind them its clock's.
+-- The octets of the part, and after them those of its clock.
 use mathlib.Core.Path.{ap, ap₂, _∙_}
 use mathlib.Core.List.{List}
 use Prim.Native.Nat.{ℕ, _+_, _*_}

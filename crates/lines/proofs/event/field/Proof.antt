@@ -1,4 +1,4 @@
--- The number behind the space.
+-- The number after the space.
 use native.Mathlib.Omega.{arith}
 use Rattle.lines.proofs.Joined.{joined}
 use borrow.Author.Needs.{needs}

@@ -1,4 +1,4 @@
--- One behind the other.
+-- The fields are written one after the other.
 use native.Mathlib.Omega.{arith}
 use Rattle.lines.proofs.Joined.{joined}
 use borrow.Author.Needs.{needs}
