@@ -7,13 +7,10 @@ use native.Mathlib.Omega.{arith}
 use lib.ListN.{length}
 use lib.Dec.{eqb, leb}
 use borrow.Author.Tests.{eqb-true, leb-true, eq-eqb, le-leb}
-use Rattle.octets.proofs.Tests.{and-left, and-right, and-both}
+use Rattle.octets.proofs.Tests.{halves, and-both}
 use Rattle.rules.specs.Records.{tableLength, listLength, circuits, circuitSize, mostCircuits, eventSize, mostEvents, answerSize}
 use Rattle.route.specs.Entries.{listLengths, listNumber}
 use Rattle.claims.specs.OneByOne.{RightLengths, CarriedOut}
-
-both : (a b : Bool) → a && b ≡ true → (a ≡ true) × (b ≡ true)
-both a b h = (and-left a b h, and-right a b h)
 
 -- 0 came back, so the lengths were found right
 found-right : (b : Bool) → _≡_ {A = ℕ} (cond b 0 20) 0 → b ≡ true
@@ -23,11 +20,11 @@ found-right false h = absurd (omega arith)
 right-lengths : (t es places : List ℕ) → listLengths t es places ≡ true → RightLengths t es places
 unfolding listLengths tableLength listLength
 right-lengths t es places h =
-    let halves = both (tableLength (length t)) (listLength (length es) (length places)) h in
-    let table = both (eqb (length t % circuitSize) 0) (leb 1 (circuits t) && leb (circuits t) mostCircuits) (halves .0) in
-    let sizes = both (leb 1 (circuits t)) (leb (circuits t) mostCircuits) (table .1) in
-    let list = both (eqb (length es % eventSize) 0) (leb (length es / eventSize) mostEvents && eqb (length places) (answerSize * (length es / eventSize))) (halves .1) in
-    let rest = both (leb (length es / eventSize) mostEvents) (eqb (length places) (answerSize * (length es / eventSize))) (list .1) in
+    let lengths = halves h in
+    let table = halves (lengths .0) in
+    let sizes = halves (table .1) in
+    let list = halves (lengths .1) in
+    let rest = halves (list .1) in
     let some = leb-true 1 (circuits t) (sizes .0) in
     let most = leb-true (circuits t) mostCircuits (sizes .1) in
     let whole = eqb-true (length t % circuitSize) 0 (table .0) in

@@ -11,7 +11,7 @@ use Rattle.rules.specs.Numbers as number
 use Rattle.rules.specs.declared.part.Part.{Part}
 use Rattle.rules.specs.declared.circuit.Circuit.{Circuit}
 use Rattle.rules.specs.Circuit.{nobody}
-use Rattle.rules.specs.Records.{circuitAt, holderOctets, reservationOctets, answerNumber, answerDetail, lostCall, lostReservation, emptyTable}
+use Rattle.rules.specs.Records.{circuitAt, holderOctets, reservationOctets, answerNumber, answerDetail, lostCall, lostReservation, somebodyLost, emptyTable}
 use Rattle.claims.specs.History.{Turn, asked, afterTurn, history}
 use Rattle.claims.specs.Lists.{EventList, tableAfter, past}
 use Rattle.claims.specs.Demand.{StandsIn}
@@ -41,7 +41,7 @@ pub record Taken (loser : List ℕ → List ℕ) (c : ℕ) (q : Part) (p : Turn)
   pub domain : asked p .mark .domain ≡ q .mark .domain
   pub level : asked p .mark .level .0 < q .mark .level .0
   pub named : answerDetail (p .answer) ≡ c
-  pub lost : loser (p .answer) ≡ 1 ∷ q .reference
+  pub lost : loser (p .answer) ≡ somebodyLost (q .reference)
 
 -- after any lists from an empty table: the call that the history shows in this part of a circuit stays at each turn, or goes by it
 abbrev pub StaysOrGoes : (Circuit → Part) → (Circuit → Circuit → Type 0) → (ℕ → Circuit → Turn → Type 0) → Type 0

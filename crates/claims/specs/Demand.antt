@@ -15,7 +15,7 @@ use Rattle.rules.specs.declared.event.Event.{Event}
 use Rattle.rules.specs.Circuit.{isRoutine, nobody}
 use Rattle.rules.specs.Event.{wellFormed}
 use Rattle.rules.specs.Numbers as number
-use Rattle.rules.specs.Records.{circuitAt, eventAt, mostCircuits, eventSize, answerSize, answerNumber, emptyTable, answerFields, nobodyLost}
+use Rattle.rules.specs.Records.{circuitAt, eventAt, mostCircuits, eventSize, answerSize, answerNumber, emptyTable, answerFields, somebodyLost, nobodyLost}
 use Rattle.route.specs.Entries.{listAnswers}
 use Rattle.claims.specs.History.{Turn, asked, caller, history}
 use Rattle.claims.specs.Lists.{EventList, tableAfter, past}
@@ -49,7 +49,7 @@ wantOctets ofRoutine =
 
 -- a loser in an answer: 1 and its reference where a call stands, zeros where none does
 abbrev pub loserOctets : Part → List ℕ
-loserOctets p = cond (p .present) (1 ∷ p .reference) nobodyLost
+loserOctets p = cond (p .present) (somebodyLost (p .reference)) nobodyLost
 
 -- the whole answer to a call that gets circuit i, which was y: 2 if anybody stood there, else 1; no cause; the circuit; the losers
 abbrev pub seizedOctets : ℕ → Circuit → List ℕ

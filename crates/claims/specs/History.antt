@@ -22,6 +22,9 @@ asked p = eventAt (p .event)
 abbrev pub caller : Event → Part  -- the event's call as it stands in a part: present, under the event's mark, by its reference
 caller e = record { present = true; mark = e .mark; reference = e .reference }
 
+abbrev pub unreserved : Circuit → Circuit  -- nobody has reserved it, and a holder stays
+unreserved y = record { holder = y .holder; reservation = nobody; clock = 0 }
+
 -- what event e, answered by number k, makes of the circuit y that the answer names
 unfoldable pub named : Event → ℕ → Circuit → Circuit
 named e k y =
@@ -32,7 +35,7 @@ named e k y =
     -- 5 released: nobody holds it, and a reservation stays
     (cond (eqb k number.released) (record { holder = nobody; reservation = y .reservation; clock = y .clock })
     -- 6 cancelled: nobody has reserved it, and a holder stays
-    (cond (eqb k number.cancelled) (record { holder = y .holder; reservation = nobody; clock = 0 }) y)))
+    (cond (eqb k number.cancelled) (unreserved y) y)))
 
 -- a reservation that was made 3,000 steps ago or more, modulo 4,294,967,296
 abbrev pub old : ℕ → Circuit → Bool
@@ -42,7 +45,7 @@ old clock y = y .reservation .present && leb 3000 ((clock + 4294967296 - y .cloc
 -- each old reservation, and any other answer speaks of the circuit that it names
 unfoldable pub afterAnswer : Event → ℕ → ℕ → ℕ → Circuit → Circuit
 afterAnswer e k i c y =
-    cond (eqb k number.clockTaken) (cond (old (e .clock) y) (record { holder = y .holder; reservation = nobody; clock = 0 }) y) (cond (eqb i c) (named e k y) y)
+    cond (eqb k number.clockTaken) (cond (old (e .clock) y) (unreserved y) y) (cond (eqb i c) (named e k y) y)
 
 abbrev pub afterTurn : Turn → ℕ → Circuit → Circuit  -- the same, read from the octets
 afterTurn p c y = afterAnswer (asked p) (answerNumber (p .answer)) (answerDetail (p .answer)) c y

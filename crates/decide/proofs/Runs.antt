@@ -89,11 +89,11 @@ flatten-append (x ∷ a) b = ap (λ (l : List ℕ). x ++ l) (flatten-append a b)
 pub list-by-list : ListByList
 unfolding answersTo listTable listAnswers eventsIn
 list-by-list before t first places rest h =
-    let told = flatten (answerRecords records t (eventsIn first)) in
+    let answers = flatten (answerRecords records t (eventsIn first)) in
     let after = run records t (eventsIn first) in
     let whole : length first % 16 ≡ 0 = list-facts t first places h .1 in
-    let size : length told ≡ 16 * (length first / 16) = answers-length t first (length first / 16) in
-    let split : answersTo t (first ++ rest) ≡ told ++ answersTo after rest = ap (λ (es : List (List ℕ)). flatten (answerRecords records t es)) (events-append first rest whole) ∙ ap flatten (answers-append records (eventsIn first) (eventsIn rest) t) ∙ flatten-append (answerRecords records t (eventsIn first)) (answerRecords records after (eventsIn rest)) in
-    let number : length told / 16 ≡ length first / 16 = omega arith in
-    ap (listing before) split ∙ running-on before told (answersTo after rest) (omega arith)
-    ∙ (λ i. listing before (cond (sym h i) told places) ++ listing (before + number i) (answersTo (cond (sym h i) after t) rest))
+    let size : length answers ≡ 16 * (length first / 16) = answers-length t first (length first / 16) in
+    let split : answersTo t (first ++ rest) ≡ answers ++ answersTo after rest = ap (λ (es : List (List ℕ)). flatten (answerRecords records t es)) (events-append first rest whole) ∙ ap flatten (answers-append records (eventsIn first) (eventsIn rest) t) ∙ flatten-append (answerRecords records t (eventsIn first)) (answerRecords records after (eventsIn rest)) in
+    let number : length answers / 16 ≡ length first / 16 = omega arith in
+    ap (listing before) split ∙ running-on before answers (answersTo after rest) (omega arith)
+    ∙ (λ i. listing before (cond (sym h i) answers places) ++ listing (before + number i) (answersTo (cond (sym h i) after t) rest))

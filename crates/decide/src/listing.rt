@@ -32,8 +32,8 @@ pub fn numbered_on(before: u64) -> u64
 // The line of an event, written from a place of the text on; the place after it comes back.
 fn line_at(text: &mut [u8], at: usize, number: u64, a: [u8; ANSWER_SIZE]) -> usize
     requires { ⌜ at + mostLetters ≤ length (now text) ⌝ }
-    ensures { λ r. ⌜ Written (now (text .entry)) at (line number a) (now (text .exit)) r ⌝ }
-    ensures { λ r. ⌜ r ≤ at + mostLetters ⌝ }
+    ensures text { λ r. ⌜ Written (now (text .entry)) at (line number a) (now (text .exit)) r ⌝ }
+    ensures end { λ r. ⌜ r ≤ at + mostLetters ⌝ }
 {
     at + lines::event::line(&mut text[at..], number, a)
 }
@@ -43,8 +43,8 @@ fn listing(before: u64, answers: &[u8], text: &mut [u8]) -> usize
     requires { ⌜ length (now answers) ≤ answerSize * mostEvents ⌝ }
     requires { ⌜ before < lastNumber ⌝ }
     requires { ⌜ room ≤ length (now text) ⌝ }
-    ensures { λ r. ⌜ Written (now (text .entry)) 0 (listing before (now (answers .entry))) (now (text .exit)) r ⌝ }
-    ensures { λ r. ⌜ r ≤ room ⌝ }
+    ensures text { λ r. ⌜ Written (now (text .entry)) 0 (listing before (now (answers .entry))) (now (text .exit)) r ⌝ }
+    ensures end { λ r. ⌜ r ≤ room ⌝ }
 {
     let n = answers.len() / ANSWER_SIZE;
     let mut at = 0;

@@ -11,7 +11,7 @@ ghost use Prim.Native.Nat.{_+_, _*_, _≤_};
 ghost use lib.ListN.{length};
 ghost use Rattle.octets.specs.Number.{Octets};
 ghost use Rattle.octets.specs.Span.{span, put};
-ghost use Rattle.rules.specs.Records.{eventSize, eventIn, markIn, referenceIn, eventAt, answerSize, answerOctets, answerIn, answerNumber, answerCause, answerDetail, lostCall, lostReservation};
+ghost use Rattle.rules.specs.Records.{eventSize, eventIn, markIn, referenceIn, eventAt, answerSize, answerOctets, answerIn, answerNumber, answerCause, answerDetail, lostCall, lostReservation, isLost, lostReference};
 
 // How many octets an event has.
 pub const EVENT_SIZE: usize = 16;
@@ -154,4 +154,18 @@ pub fn lost_reservation(a: [u8; ANSWER_SIZE]) -> Lost
     ensures octets { λ r. ⌜ Octets r ⌝ }
 {
     [a[10], a[11], a[12], a[13], a[14], a[15]]
+}
+
+// Tells whether a party named so was lost: its flag is 1.
+pub fn is_lost(lost: Lost) -> bool
+    ensures { λ r. ⌜ r ≡ isLost lost ⌝ }
+{
+    lost[0] == 1
+}
+
+// Gives the reference of a party that was lost.
+pub fn lost_reference(lost: Lost) -> Reference
+    ensures { λ r. ⌜ r ≡ lostReference lost ⌝ }
+{
+    [lost[1], lost[2], lost[3], lost[4], lost[5]]
 }

@@ -20,7 +20,8 @@ accepted t h =
     by-so (eqb (checkNumber t) 0) (eqb-true (checkNumber t) 0)
     (λ e. sym (ap (λ (b : Bool). cond b (litMap t) (darkMap (checkNumber t)) .number) e) ∙ h)
 
-shown : (t : List ℕ) → checkNumber t ≡ 0 → lampMap t ≡ litMap t
+-- of a table that the check accepts the map shows the free circuits
+pub shown : (t : List ℕ) → checkNumber t ≡ 0 → lampMap t ≡ litMap t
 unfolding lampMap
 shown t h = ap (λ (n : ℕ). cond (eqb n 0) (litMap t) (darkMap n)) h
 

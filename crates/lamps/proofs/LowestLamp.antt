@@ -15,16 +15,12 @@ use Rattle.rules.specs.Search.{countTo, orElse, firstTo, bestTo}
 use Rattle.rules.specs.Circuit.{free, rank}
 use Rattle.rules.specs.Choice.{choice}
 use Rattle.rules.specs.Records.{circuitAt, circuits}
-use Rattle.rules.proofs.Searches.{FirstIs, first-is, first-none, first-cong}
+use Rattle.rules.proofs.Searches.{FirstIs, first-is, or-nothing, first-none, first-cong}
 use Rattle.lamps.specs.Lamps.{lit, word, fourWords, bit, lampIn, numberIn, lowestIn, litMap}
 use Rattle.lamps.proofs.Words.{word-bit}
 use Rattle.lamps.proofs.Counts.{count-cong}
 use Rattle.lamps.proofs.Lit.{lit-below, lit-past}
 use Rattle.lamps.proofs.Shown.{lamp-in}
-
-or-nothing : (r : Found) → orElse r Nothing ≡ r
-or-nothing (At i) = refl
-or-nothing Nothing = refl
 
 word-of : (f : ℕ → Bool) (j : ℕ) → j < 4 → getD (fourWords f) j 0 ≡ word f j
 word-of f zero h = refl

@@ -8,14 +8,15 @@ use Rattle.rules.specs.declared.search.Found.the-variants.{At, Nothing}
 use Rattle.rules.specs.Circuit.{free}
 use Rattle.rules.specs.Choice.{choice}
 use Rattle.rules.specs.Records.{circuitAt, circuits}
+use Rattle.rules.specs.Numbers.{done}
 use Rattle.lamps.specs.Lamps.{lowestIn, lampMap}
 
 -- whatever the mark of the call that searches
 abbrev pub LowestTaken : Type 0
 LowestTaken =
-    (t : List ℕ) (m : Mark) (i : ℕ) → lampMap t .number ≡ 0 → lowestIn (lampMap t .words) ≡ At i → choice (circuitAt t) (circuits t) m ≡ At i
+    (t : List ℕ) (m : Mark) (i : ℕ) → lampMap t .number ≡ done → lowestIn (lampMap t .words) ≡ At i → choice (circuitAt t) (circuits t) m ≡ At i
 
 -- and where no lamp is lit, no circuit is free
 abbrev pub NoneLit : Type 0
 NoneLit =
-    (t : List ℕ) → lampMap t .number ≡ 0 → lowestIn (lampMap t .words) ≡ Nothing → (i : ℕ) → i < circuits t → free (circuitAt t i) ≡ false
+    (t : List ℕ) → lampMap t .number ≡ done → lowestIn (lampMap t .words) ≡ Nothing → (i : ℕ) → i < circuits t → free (circuitAt t i) ≡ false

@@ -9,6 +9,7 @@ use Rattle.rules.specs.declared.search.Found.{Found}
 use Rattle.rules.specs.Search.{countTo, firstTo}
 use Rattle.rules.specs.Circuit.{free}
 use Rattle.rules.specs.Records.{circuitAt, checkNumber, circuits}
+use Rattle.rules.specs.Numbers.{done}
 use Rattle.lamps.specs.declared.Lamps.{Lamps}
 
 -- lamp c of a route is lit where circuit c is free; lamps past the table's end are dark
@@ -43,7 +44,7 @@ lowestIn ws = firstTo (lampIn ws) 256
 
 -- the lamps of n circuits x, and how many of the circuits are free
 abbrev pub litRoute : (ℕ → Circuit) → ℕ → Lamps
-litRoute x n = record { number = 0; lit = countTo (λ i. free (x i)) n; words = fourWords (lit x n) }
+litRoute x n = record { number = done; lit = countTo (λ i. free (x i)) n; words = fourWords (lit x n) }
 
 abbrev pub litMap : List ℕ → Lamps  -- the lamps of a table's circuits
 litMap t = litRoute (circuitAt t) (circuits t)
@@ -53,4 +54,4 @@ darkMap number = record { number = number; lit = 0; words = replicate 4 0 }
 
 -- the words come back as values with number 0, 20 or 21
 unfoldable pub lampMap : List ℕ → Lamps
-lampMap t = cond (eqb (checkNumber t) 0) (litMap t) (darkMap (checkNumber t))
+lampMap t = cond (eqb (checkNumber t) done) (litMap t) (darkMap (checkNumber t))

@@ -2,12 +2,9 @@
 use Prim.Native.Nat.{ℕ}
 use mathlib.Core.Bool.{cond}
 use mathlib.Core.List.{List, _++_}
-use lib.ListN.{getD}
 use lib.Dec.{eqb}
-use Rattle.octets.specs.Span.{span}
-use Rattle.rules.specs.Fields.{referenceSize}
 use Rattle.rules.specs.Answer.{noDetail}
-use Rattle.rules.specs.Records.{answerNumber, answerCause, answerDetail, lostCall, lostReservation}
+use Rattle.rules.specs.Records.{answerNumber, answerCause, answerDetail, lostCall, lostReservation, isLost, lostReference}
 use Rattle.fields.specs.declared.reference.Reference.{Reference}
 use Rattle.fields.specs.Reference.{valuesOf}
 use Rattle.lines.specs.Text.{letters, decimal}
@@ -23,7 +20,7 @@ named v = decimal (v .identity) ++ letters "/" ++ decimal (v .point)
 
 -- a lost party (identity/point code or `-`), by its flag and its reference
 unfoldable pub party : List ℕ → List ℕ
-party lost = cond (eqb (getD lost 0 0) 1) (named (valuesOf (span lost 1 referenceSize))) (letters "-")
+party lost = cond (isLost lost) (named (valuesOf (lostReference lost))) (letters "-")
 
 abbrev pub field : List ℕ → List ℕ  -- after a space
 field text = letters " " ++ text

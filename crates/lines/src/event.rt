@@ -14,8 +14,8 @@ ghost use Rattle.lines.specs.Event as rule;
 // A number after a space.
 fn field(out: &mut [u8], at: usize, n: u64) -> usize
     requires { ⌜ at ≤ 800 ⌝ }
-    ensures { λ r. ⌜ Written (now (out .entry)) at (rule.field (decimal n)) (now (out .exit)) r ⌝ }
-    ensures { λ r. ⌜ r ≤ at + 21 ⌝ }
+    ensures text { λ r. ⌜ Written (now (out .entry)) at (rule.field (decimal n)) (now (out .exit)) r ⌝ }
+    ensures end { λ r. ⌜ r ≤ at + 21 ⌝ }
 {
     let from = text::put(out, at, b" ");
     text::number(out, from, n)
@@ -24,8 +24,8 @@ fn field(out: &mut [u8], at: usize, n: u64) -> usize
 // The detail of an answer, after a space.
 fn detail(out: &mut [u8], at: usize, n: u16) -> usize
     requires { ⌜ at ≤ 800 ⌝ }
-    ensures { λ r. ⌜ Written (now (out .entry)) at (rule.field (rule.detail n)) (now (out .exit)) r ⌝ }
-    ensures { λ r. ⌜ r ≤ at + 21 ⌝ }
+    ensures text { λ r. ⌜ Written (now (out .entry)) at (rule.field (rule.detail n)) (now (out .exit)) r ⌝ }
+    ensures end { λ r. ⌜ r ≤ at + 21 ⌝ }
 {
     if n == NO_DETAIL {
         return text::put(out, at, b" -");
@@ -50,10 +50,10 @@ fn party(out: &mut [u8], at: usize, lost: Lost) -> usize
     ensures text { λ r. ⌜ Written (now (out .entry)) at (rule.field (rule.party lost)) (now (out .exit)) r ⌝ }
     ensures end { λ r. ⌜ r ≤ at + 42 ⌝ }
 {
-    if lost[0] != 1 {
+    if !events::is_lost(lost) {
         return text::put(out, at, b" -");
     }
-    let octets = [lost[1], lost[2], lost[3], lost[4], lost[5]];
+    let octets = events::lost_reference(lost);
     named(out, at, fields::reference::values(octets))
 }
 
@@ -92,8 +92,8 @@ pub fn header(out: &mut [u8]) -> usize
 // A word, a number and the end of the line.
 fn numbered(out: &mut [u8], word: &[u8], n: u64) -> usize
     requires { ⌜ length (now word) ≤ 20 ⌝ }
-    ensures { λ r. ⌜ Written (now (out .entry)) 0 (now (word .entry) ++ decimal n ++ letters "\n") (now (out .exit)) r ⌝ }
-    ensures { λ r. ⌜ r ≤ 41 ⌝ }
+    ensures text { λ r. ⌜ Written (now (out .entry)) 0 (now (word .entry) ++ decimal n ++ letters "\n") (now (out .exit)) r ⌝ }
+    ensures end { λ r. ⌜ r ≤ 41 ⌝ }
 {
     let from = text::put(out, 0, word);
     let end = text::number(out, from, n);
@@ -102,8 +102,8 @@ fn numbered(out: &mut [u8], word: &[u8], n: u64) -> usize
 
 // The line after those of the events, where n octets were left over.
 pub fn short(out: &mut [u8], n: u64) -> usize
-    ensures { λ r. ⌜ Written (now (out .entry)) 0 (rule.short n) (now (out .exit)) r ⌝ }
-    ensures { λ r. ⌜ r ≤ 41 ⌝ }
+    ensures text { λ r. ⌜ Written (now (out .entry)) 0 (rule.short n) (now (out .exit)) r ⌝ }
+    ensures end { λ r. ⌜ r ≤ 41 ⌝ }
 {
     numbered(out, b"short ", n)
 }
@@ -117,8 +117,8 @@ pub fn no_table(out: &mut [u8]) -> usize
 
 // The only line that there is where the check refuses the table by this number.
 pub fn bad_table(out: &mut [u8], number: u8) -> usize
-    ensures { λ r. ⌜ Written (now (out .entry)) 0 (rule.badTable number) (now (out .exit)) r ⌝ }
-    ensures { λ r. ⌜ r ≤ 41 ⌝ }
+    ensures text { λ r. ⌜ Written (now (out .entry)) 0 (rule.badTable number) (now (out .exit)) r ⌝ }
+    ensures end { λ r. ⌜ r ≤ 41 ⌝ }
 {
     numbered(out, b"bad table ", number as u64)
 }

@@ -30,8 +30,8 @@ pub fn put(out: &mut [u8], at: usize, text: &[u8]) -> usize
 // A number, in as few digits as hold it.
 pub fn number(out: &mut [u8], at: usize, n: u64) -> usize
     requires { ⌜ at ≤ 900 ⌝ }
-    ensures { λ r. ⌜ Written (now (out .entry)) at (decimal n) (now (out .exit)) r ⌝ }
-    ensures { λ r. ⌜ r ≤ at + 20 ⌝ }
+    ensures text { λ r. ⌜ Written (now (out .entry)) at (decimal n) (now (out .exit)) r ⌝ }
+    ensures end { λ r. ⌜ r ≤ at + 20 ⌝ }
 {
     let mut digits = [0u8; 20];
     let k = io::decimal(n, &mut digits);

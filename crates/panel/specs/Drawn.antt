@@ -9,6 +9,7 @@ use Rattle.rules.specs.declared.search.Found.the-variants.{At}
 use Rattle.rules.specs.Circuit.{free}
 use Rattle.rules.specs.Choice.{choice}
 use Rattle.rules.specs.Records.{circuitAt, circuits, checkNumber}
+use Rattle.rules.specs.Numbers.{done}
 use Rattle.lamps.specs.Lamps.{litAt, lowestIn, lampMap}
 use Rattle.lines.specs.Panel.{lamp, drawing}
 
@@ -19,10 +20,10 @@ panel t = drawing (lampMap t .words) (lampMap t .lit) (lowestIn (lampMap t .word
 -- 65 letters, its end being one
 abbrev pub FreeShown : Type 0
 FreeShown =
-    (t : List ℕ) → checkNumber t ≡ 0 → (j i : ℕ) → j < 4 → i < 64 → getD (panel t) (65 * j + i) 0 ≡ getD (lamp (litAt t (64 * j + i))) 0 0
+    (t : List ℕ) → checkNumber t ≡ done → (j i : ℕ) → j < 4 → i < 64 → getD (panel t) (65 * j + i) 0 ≡ getD (lamp (litAt t (64 * j + i))) 0 0
 
 -- after "first" stands the free circuit that a search takes, whatever the mark of the call that searches
 abbrev pub FirstTaken : Type 0
 FirstTaken =
-    (t : List ℕ) (m : Mark) (i : ℕ) → checkNumber t ≡ 0 → i < circuits t → free (circuitAt t i) ≡ true → choice (circuitAt t) (circuits t) m ≡ At i
+    (t : List ℕ) (m : Mark) (i : ℕ) → checkNumber t ≡ done → i < circuits t → free (circuitAt t i) ≡ true → choice (circuitAt t) (circuits t) m ≡ At i
     → panel t ≡ drawing (lampMap t .words) (lampMap t .lit) (At i)

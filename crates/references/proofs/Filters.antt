@@ -22,7 +22,7 @@ use Rattle.rules.specs.declared.search.Found.the-variants.{At, Nothing}
 use Rattle.rules.specs.Circuit.{isOf}
 use Rattle.rules.specs.Search.{orElse, firstTo, found}
 use Rattle.rules.specs.Valid.{partNumbered, clash, repeated}
-use Rattle.rules.proofs.Searches.{first-cong, nothing-found, some-found}
+use Rattle.rules.proofs.Searches.{or-nothing, first-cong, nothing-found, some-found}
 use Rattle.references.specs.Filter.{spread, wordOf, bitsIn, wordFor, already, standsTo, Grown, Seen}
 
 -- ---- bits in words
@@ -98,10 +98,6 @@ no-clash p q h =
     h (and-left (p .present) (q .present) l) (and-right (p .present) (q .present) l) (same-true (p .reference) (q .reference) (and-right (p .present && q .present) (same (p .reference) (q .reference)) e)))
 
 -- ---- searches
-or-nothing : (r : Found) → orElse r Nothing ≡ r
-or-nothing (At i) = refl
-or-nothing Nothing = refl
-
 module _ (x : ℕ → Circuit) (r : List ℕ) where
   -- the call stands in part k
   pub stands-at : (n k : ℕ) → k < n → isOf r (partNumbered x k) ≡ true → standsTo x r n ≡ true

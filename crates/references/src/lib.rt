@@ -38,8 +38,8 @@ fn bits(v: u64) -> u64
 // Sets the bits of a reference, and says whether all of them were set before.
 fn set_bits(w: &mut [u64; 64], r: Reference) -> bool
     requires { ⌜ length (now w) ≡ 64 ⌝ }
-    ensures { λ b. ⌜ b ≡ already (now (w .entry)) r ⌝ }
-    ensures { λ _. ⌜ Grown (now (w .entry)) (now (w .exit)) r true ⌝ }
+    ensures lit { λ b. ⌜ b ≡ already (now (w .entry)) r ⌝ }
+    ensures words { λ _. ⌜ Grown (now (w .entry)) (now (w .exit)) r true ⌝ }
 {
     let v = spread(r);
     let k = (v / 67108864 % 64) as usize;
@@ -52,8 +52,8 @@ fn set_bits(w: &mut [u64; 64], r: Reference) -> bool
 // Notes a part that is present, and says whether its reference may stand in an earlier one.
 fn may_repeat(w: &mut [u64; 64], p: Part) -> bool
     requires { ⌜ length (now w) ≡ 64 ⌝ }
-    ensures { λ b. ⌜ b ≡ p .present && already (now (w .entry)) (p .reference) ⌝ }
-    ensures { λ _. ⌜ Grown (now (w .entry)) (now (w .exit)) (p .reference) (p .present) ⌝ }
+    ensures lit { λ b. ⌜ b ≡ p .present && already (now (w .entry)) (p .reference) ⌝ }
+    ensures words { λ _. ⌜ Grown (now (w .entry)) (now (w .exit)) (p .reference) (p .present) ⌝ }
 {
     let r = p.reference;
     if p.present { set_bits(w, r) } else { false }
@@ -89,9 +89,10 @@ fn stands_below(t: &[u8], i: usize, r: Reference) -> bool
 
 // Whether the holder's reference of circuit i stands in an earlier part; it is noted.
 fn note_holder(t: &[u8], w: &mut [u64; 64], i: usize) -> bool
-    requires { ⌜ (i < circuits (now t)) × Seen (circuitAt (now t)) (now w) (2 * i) ⌝ }
-    ensures { λ b. ⌜ b ≡ repeated (circuitAt (now (t .entry))) (2 * i) ⌝ }
-    ensures { λ _. ⌜ Seen (circuitAt (now (t .entry))) (now (w .exit)) (2 * i + 1) ⌝ }
+    requires { ⌜ i < circuits (now t) ⌝ }
+    requires { ⌜ Seen (circuitAt (now t)) (now w) (2 * i) ⌝ }
+    ensures twice { λ b. ⌜ b ≡ repeated (circuitAt (now (t .entry))) (2 * i) ⌝ }
+    ensures words { λ _. ⌜ Seen (circuitAt (now (t .entry))) (now (w .exit)) (2 * i + 1) ⌝ }
 {
     let p = table::part_numbered(t, 2 * i);
     let r = p.reference;
@@ -103,9 +104,10 @@ fn note_holder(t: &[u8], w: &mut [u64; 64], i: usize) -> bool
 
 // Whether the reservation's reference of circuit i stands in an earlier part, its holder's included; it is noted.
 fn note_reservation(t: &[u8], w: &mut [u64; 64], i: usize) -> bool
-    requires { ⌜ (i < circuits (now t)) × Seen (circuitAt (now t)) (now w) (2 * i + 1) ⌝ }
-    ensures { λ b. ⌜ b ≡ repeated (circuitAt (now (t .entry))) (2 * i + 1) ⌝ }
-    ensures { λ _. ⌜ Seen (circuitAt (now (t .entry))) (now (w .exit)) (2 * i + 1 + 1) ⌝ }
+    requires { ⌜ i < circuits (now t) ⌝ }
+    requires { ⌜ Seen (circuitAt (now t)) (now w) (2 * i + 1) ⌝ }
+    ensures twice { λ b. ⌜ b ≡ repeated (circuitAt (now (t .entry))) (2 * i + 1) ⌝ }
+    ensures words { λ _. ⌜ Seen (circuitAt (now (t .entry))) (now (w .exit)) (2 * i + 1 + 1) ⌝ }
 {
     let holder = table::part_numbered(t, 2 * i);
     let p = table::part_numbered(t, 2 * i + 1);

@@ -1,6 +1,7 @@
 -- Nobody, or somebody by name.
-use mathlib.Core.Path.{ap}
+use mathlib.Core.Path.{ap, _∙_}
 use native.Mathlib.Omega.{arith}
+use Rattle.fields.specs.Reference.{valuesOf}
 use Rattle.lines.specs.Event.{field}
 use Rattle.lines.proofs.Joined.{said}
 use Rattle.lines.proofs.Parties.{dash, by-name}
@@ -10,31 +11,30 @@ use Rattle.lines.proofs.event.party.Tie as tie
 
 returns : tie.Need-returns
 returns c =
-    let a = c .before .before .before .before .before .before .before .args in
     let written = c .before .before .put .ensures in
-    (said (ap field (dash (a .t3) (c .before .before .before .before .before .if1 .taken))) written, omega (arith, written .end))
+    let test = c .before .before .before .before .before in
+    let a = test .before .before .before .args in
+    (said (ap field (dash (a .lost) (test .before .is-lost .ensures) (test .if1 .taken))) written, omega (arith, written .end))
 
 returns-2 : tie.Need-returns-2
 returns-2 c =
     let written = c .before .before .named in
     let read = c .before .before .before in
-    let a = read .before .before .before .before .args in
-    (said (ap field (by-name (a .t3) (read .before .before .if1 .left) (read .values .ensures))) (written .ensures .0), written .ensures .1)
+    let test = read .before .before .before in
+    let a = test .before .before .before .args in
+    let values = read .values .ensures ∙ ap valuesOf (read .before .before .lost-reference .ensures) in
+    (said (ap field (by-name (a .lost) (test .before .is-lost .ensures) (test .if1 .left) values)) (written .ensures .0), written .ensures .1)
 
 pub party-spec : {M : Type 1} → statement M
 party-spec =
     tie.close
     (tie.spec
-    (λ c. search needs)
+    (λ c κs. search needs)
     (λ c. search needs)
     (λ c κs. search needs)
     (λ c. search needs)
     returns
-    (λ c. search needs)
-    (λ c. search needs)
-    (λ c. search needs)
-    (λ c. search needs)
-    (λ c. search needs)
+    (λ c κs. search needs)
     (λ c κs. search needs)
     (λ c κs. search needs)
     (λ c. search needs)
