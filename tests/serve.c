@@ -32,7 +32,7 @@ struct response {
     uint64_t words[4];
 };
 
-/* Memory for one buffer with guards, and no memory behind it. */
+/* Memory for one buffer with guards, and no memory after it. */
 struct arena {
     uint8_t *from, *end, *buffer;
     size_t length;
@@ -69,8 +69,8 @@ static int all_guard(const uint8_t *from, const uint8_t *to)
 
 static int guards_stand(const struct arena *a)
 {
-    const uint8_t *behind = a->buffer + a->length, *last = a->end - behind < GUARD ? a->end : behind + GUARD;
-    return all_guard(a->buffer - GUARD, a->buffer) && all_guard(behind, last);
+    const uint8_t *after = a->buffer + a->length, *last = a->end - after < GUARD ? a->end : after + GUARD;
+    return all_guard(a->buffer - GUARD, a->buffer) && all_guard(after, last);
 }
 
 /* Members are copied one by one, so that no padding of the library's goes into a response. */

@@ -114,10 +114,10 @@ fn drip() {
     let octets = input();
     let mut rest = &octets[..];
     for size in [1, 15, 7, 4096, 17, 333, 2, 1009].iter().cycle() {
-        let (piece, behind) = rest.split_at(rest.len().min(*size));
+        let (piece, later) = rest.split_at(rest.len().min(*size));
         io::stdout().write_all(piece).and_then(|_| io::stdout().flush()).expect("standard output");
         thread::sleep(Duration::from_millis(1));
-        rest = behind;
+        rest = later;
         if rest.is_empty() {
             return;
         }

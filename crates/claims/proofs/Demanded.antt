@@ -26,10 +26,10 @@ module _ (n : ℕ) where
   start-long : length (emptyTable n) ≡ 32 * n
   start-long = length-replicate (32 * n) 0
 
-  pub start-count : length (emptyTable n) / 32 ≡ n
+  pub start-count : circuits (emptyTable n) ≡ n
   start-count = omega (arith, start-long)
 
-  pub start-shows : (c : ℕ) → c < length (emptyTable n) / 32 → circuitAt (emptyTable n) c ≡ empty
+  pub start-shows : (c : ℕ) → c < circuits (emptyTable n) → circuitAt (emptyTable n) c ≡ empty
   start-shows c l = circuit-empty n c
 
   -- whatever was run from it is shown by the table that was left
@@ -49,7 +49,7 @@ module _ (n : ℕ) where
     pub now-long : length (tableAfter (emptyTable n) lists) ≡ 32 * n
     now-long = ran-long (past (emptyTable n) lists) (tableAfter (emptyTable n) lists) (past-ran lists (emptyTable n))
 
-    pub now-count : length (tableAfter (emptyTable n) lists) / 32 ≡ n
+    pub now-count : circuits (tableAfter (emptyTable n) lists) ≡ n
     now-count = omega (arith, now-long)
 
 pub history-tells : HistoryTells

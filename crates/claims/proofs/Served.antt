@@ -28,7 +28,7 @@ use Rattle.rules.specs.Answer.{noDetail, noLoser, losers, anothers, answerOf}
 use Rattle.rules.specs.Layout.{Layout}
 use Rattle.rules.specs.Valid.{valid}
 use Rattle.rules.specs.Run.{outcomeOf, answered, answerRecord}
-use Rattle.rules.specs.Records.{circuitAt, flag, loser, answerOctets, records, circuits, answerNumber, answerDetail}
+use Rattle.rules.specs.Records.{circuitAt, flag, loser, answerOctets, records, circuits, circuitSize, answerNumber, answerDetail}
 use Rattle.rules.proofs.Lawful.{Tidy}
 use Rattle.rules.proofs.Records.{lawful}
 use Rattle.rules.proofs.Searches.{first-none}
@@ -196,5 +196,5 @@ module _ (t : List ℕ) (v : valid records t ≡ true) (y : ℕ → Circuit) (q 
       let s = stood p later u before t v y q ran in
       let x : ℕ → Circuit = since before in
       let then-shown : ℕ → Circuit = λ c. afterTurn p c (x c) in
-      subst (λ (m : ℕ). ((c : ℕ) → c < m / 32 → circuitAt (s .table) c ≡ x c) → NewSetUp (m / 32) x (asked p) → Answered (m / 32) x then-shown (asked p) (p .answer)) (s .shows .as-long)
+      subst (λ (m : ℕ). ((c : ℕ) → c < m / circuitSize → circuitAt (s .table) c ≡ x c) → NewSetUp (m / circuitSize) x (asked p) → Answered (m / circuitSize) x then-shown (asked p) (p .answer)) (s .shows .as-long)
       (λ f. served (s .table) (s .shows .still-valid) x f p (s .answer)) (s .shows .tells)

@@ -3,7 +3,6 @@ use Prim.Native.Nat.{_-_}
 use mathlib.Core.Path.{_≡_, refl}
 use Prim.Native.Nat.{ℕ}
 use mathlib.Core.List.{List, _++_, flatten}
-use lib.ListN.{replicate}
 use Rattle.rules.specs.Fields.{decimal, parameterOk, pointCodeOk}
 use Rattle.rules.specs.Circuit.{takeable, worth, rank}
 use Rattle.rules.specs.Choice.{heldBy, reservedBy, choice}
@@ -12,7 +11,7 @@ use Rattle.rules.specs.Decision.{onReservation, setUp, lookAhead, release, canc
 use Rattle.rules.specs.Answer.{answerOf}
 use Rattle.rules.specs.Valid.{levelsOk, fieldsOk, pairOk, repeated, recordVerdict, verdict, valid}
 use Rattle.rules.specs.Run.{outcomeOf, effect, after, answerRecord, answered}
-use Rattle.rules.specs.Records.{putCircuit, flagsAt, blankAt, records, checkNumber, tableLength}
+use Rattle.rules.specs.Records.{putCircuit, flagsAt, blankAt, records, checkNumber, tableLength, emptyTable}
 use Rattle.rules.specs.Vectors.{event, setsUp, releases, looksAhead, ticks, immediate, priority}
 use Rattle.rules.specs.Vectors as paper
 use Rattle.fields.specs.Reference.{valuesOf}
@@ -35,7 +34,7 @@ listed =
     ++ letters "8 1 0 1 - -\n"
     ++ letters "9 30 34 - - -\n"
 
-pub shown : output (replicate 64 0) (flatten paper.listing) ≡ listed
+pub shown : output (emptyTable 2) (flatten paper.listing) ≡ listed
 unfolding flatten immediate priority event setsUp releases looksAhead ticks paper.listing answerRecord answered after effect
     outcomeOf decision setUp lookAhead release cancel onReservation choice heldBy reservedBy rank worth takeable answerOf valid
     verdict recordVerdict repeated levelsOk fieldsOk pairOk decimal pointCodeOk wellFormed parameterOk records putCircuit flagsAt

@@ -16,7 +16,7 @@ use Rattle.rules.specs.Records.{circuitAt, putCircuit, records, circuits}
 use Rattle.rules.proofs.Records.{count-put, circuit-off}
 
 module _ (t : List ℕ) (e : Event) where
-  pub swept-count : (m : ℕ) → length (sweepTo records t e m) / 32 ≡ circuits t
+  pub swept-count : (m : ℕ) → circuits (sweepTo records t e m) ≡ circuits t
   unfolding records
   swept-count zero = refl
   swept-count (suc m) =
