@@ -6,7 +6,7 @@ use Rattle.fields.proofs.reference.values.Tie as tie
 
 returns : tie.Need-returns
 unfolding valuesOf
-returns c = cc
+returns c = λ d. record { identity = c .before .join-three .ensures d; point = c .join-two .ensures d }
 
 pub values-spec : {M : Type 1} → statement M
 values-spec =
