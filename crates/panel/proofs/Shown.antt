@@ -27,7 +27,7 @@ unfolding panel
 free-shown t h j i l m =
     let words = fourWords (litAt t) in
     let lit : bit (getD words j 0) i ≡ litAt t (64 * j + i) = sym (lamp-in words j i m) ∙ lamp-shown (litAt t) (64 * j + i) (omega arith) in
-    drawn-at (lampMap t .words) (lampMap t .lit) (lowestIn (lampMap t .words)) j i l m
+    drawn-at (lampMap t .words) _ _ j i l m
     ∙ ap (λ (x : Lamps). getD (lamp (bit (getD (x .words) j 0) i)) 0 0) (accepted t h) ∙ ap (λ (b : Bool). getD (lamp b) 0 0) lit
 
 pub first-taken : FirstTaken
