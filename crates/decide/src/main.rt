@@ -4,6 +4,7 @@ mod listing;
 use events::EVENT_SIZE;
 use libc::STDIN_FILENO;
 use streams::FULL_LIST;
+use streams::LINE;
 use streams::TABLE_ROOM;
 ghost use Prim.Native.Nat.{_*_, _≤_, _<_};
 ghost use lib.ListN.{length};
@@ -19,7 +20,7 @@ fn print_list(before: u64, table: &mut [u8], events: &[u8]) -> bool
     requires { ⌜ before < lastNumber ⌝ }
 {
     let n = events.len();
-    let mut places = io::large_buffer();
+    let mut places = streams::list_room();
     let mut text = listing::space();
     let length = listing::decided(before, table, events, &mut places[..n], &mut text);
     streams::write(&text[..length])
@@ -29,7 +30,7 @@ fn print_list(before: u64, table: &mut [u8], events: &[u8]) -> bool
 fn turn(before: u64, table: &mut [u8]) -> bool
     requires { ⌜ before < lastNumber ⌝ }
 {
-    let mut events = io::large_buffer();
+    let mut events = streams::list_room();
     let taken = streams::fill(STDIN_FILENO, &mut events);
     let n = taken.octets;
     let whole = n - n % EVENT_SIZE;
@@ -56,7 +57,7 @@ fn lists(table: &mut [u8]) {
 
 // The line above those of the events; whether it was written.
 fn header() -> bool {
-    let mut text = [0u8; 64];
+    let mut text = [0u8; LINE];
     let n = lines::event::header(&mut text);
     streams::write(&text[..n])
 }

@@ -13,14 +13,10 @@ use Rattle.lamps.specs.declared.Lamps.{Lamps}
 use Rattle.lamps.specs.Lamps.{bit, litAt, fourWords, lowestIn, litMap, darkMap, lampMap}
 use Rattle.lamps.proofs.Shown.{lamp-in}
 use Rattle.lamps.proofs.LowestLamp.{lamp-shown}
-use Rattle.lamps.proofs.Claimed.{lowest-taken, none-lit}
+use Rattle.lamps.proofs.Claimed.{shown, lowest-taken, none-lit}
 use Rattle.lines.specs.Panel.{lamp, drawing}
 use Rattle.lines.proofs.Rows.{drawn-at}
 use Rattle.panel.specs.Drawn.{panel, FreeShown, FirstTaken}
-
-accepted : (t : List ℕ) → checkNumber t ≡ 0 → lampMap t ≡ litMap t
-unfolding lampMap
-accepted t h = ap (λ (n : ℕ). cond (eqb n 0) (litMap t) (darkMap n)) h
 
 pub free-shown : FreeShown
 unfolding panel
@@ -28,14 +24,14 @@ free-shown t h j i l m =
     let words = fourWords (litAt t) in
     let lit : bit (getD words j 0) i ≡ litAt t (64 * j + i) = sym (lamp-in words j i m) ∙ lamp-shown (litAt t) (64 * j + i) (omega arith) in
     drawn-at (lampMap t .words) _ _ j i l m
-    ∙ ap (λ (x : Lamps). getD (lamp (bit (getD (x .words) j 0) i)) 0 0) (accepted t h) ∙ ap (λ (b : Bool). getD (lamp b) 0 0) lit
+    ∙ ap (λ (x : Lamps). getD (lamp (bit (getD (x .words) j 0) i)) 0 0) (shown t h) ∙ ap (λ (b : Bool). getD (lamp b) 0 0) lit
 
 pub first-taken : FirstTaken
 unfolding panel
 first-taken t m i h l e k = ap (drawing (lampMap t .words) (lampMap t .lit)) (first (lowestIn (lampMap t .words)) refl)
   where
     number : lampMap t .number ≡ 0
-    number = ap (λ (x : Lamps). x .number) (accepted t h)
+    number = ap (λ (x : Lamps). x .number) (shown t h)
 
     first : (f : Found) → lowestIn (lampMap t .words) ≡ f → f ≡ At i
     first (At j) q = sym (lowest-taken t m j number q) ∙ k

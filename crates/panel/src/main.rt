@@ -28,15 +28,10 @@ fn draw(table: &[u8]) -> bool {
     streams::write(&text[..n])
 }
 
-// Octets for a full list of events, or for their answers.
-fn blank() -> [u8; FULL_LIST] {
-    [0; FULL_LIST]
-}
-
 // One list from standard input, applied to the table; its answers are not looked at.
 fn turn(table: &mut [u8]) -> Taken {
-    let mut events = blank();
-    let mut answers = blank();
+    let mut events = streams::list_room();
+    let mut answers = streams::list_room();
     let taken = streams::fill(STDIN_FILENO, &mut events);
     let n = taken.octets;
     let whole = n - n % EVENT_SIZE;

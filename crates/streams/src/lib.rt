@@ -15,7 +15,12 @@ pub const TABLE_ROOM: usize = CIRCUIT_SIZE * MOST_CIRCUITS + 1;
 pub const FULL_LIST: usize = EVENT_SIZE * MOST_EVENTS;
 
 // Room for a line that stands alone.
-const LINE: usize = 64;
+pub const LINE: usize = 64;
+
+// Gives room for a full list of events, or for their answers.
+pub fn list_room() -> [u8; FULL_LIST] {
+    [0; FULL_LIST]
+}
 
 // The octets that were read, and whether a read failed.
 pub struct Taken {
