@@ -1,22 +1,37 @@
-// The rows that ask about a table and leave it as it is.
+// The rows that ask, and leave the scene as it is.
+use crate::field;
+use crate::scene::Scene;
 use crate::scene::TABLE;
-use crate::script::ROW;
+use crate::script;
 use crate::text;
 use rules::level::Level;
 use rules::mark::Mark;
+ghost use Prim.Native.Nat.{_<_, _≤_};
+ghost use lib.ListN.{length};
 
 // Writes the circuit that a call of some level and domain gets.
-fn chosen(row: [u8; ROW], t: &[u8]) {
+fn chosen(row: &[u8], t: &[u8])
+    requires { ⌜ 6 ≤ length (now row) ⌝ }
+{
     let level = Level::in_record(row[0]);
-    let domain = octets::read_five(&row, 1);
+    let domain = octets::read_five(row, 1);
     text::found(choice::choose(t, Mark { level, domain }));
 }
 
 // Writes where the call with some reference holds, and where it has reserved.
-fn stands(row: [u8; ROW], t: &[u8]) {
-    let reference = octets::read_five(&row, 0);
+fn stands(row: &[u8], t: &[u8])
+    requires { ⌜ 5 ≤ length (now row) ⌝ }
+{
+    let reference = octets::read_five(row, 0);
     text::found(choice::held_by(t, reference));
     text::found(choice::reserved_by(t, reference));
+}
+
+// Writes a word of lamps.
+fn word(words: [u64; 4], k: usize)
+    requires { ⌜ k < 4 ⌝ }
+{
+    text::digits(words[k], 16);
 }
 
 // Writes the lamp map: number, lit, the words with the highest first, the lowest lit lamp.
@@ -25,71 +40,66 @@ fn lamp_map(t: &[u8]) {
     let words = m.words;
     text::number(m.number as u64);
     text::number(m.lit as u64);
-    text::word(words[3]);
-    text::word(words[2]);
-    text::word(words[1]);
-    text::word(words[0]);
+    word(words, 3);
+    word(words, 2);
+    word(words, 1);
+    word(words, 0);
     text::found(lamps::lowest(words));
 }
 
 // Writes the numbers of the five levels.
 fn levels() {
     let numbers = Level::numbers();
-    text::octets(&numbers);
+    text::barred(&numbers, 0, 5);
 }
 
-// Writes what the check gives for the first n octets of a table.
-fn check(t: [u8; TABLE], n: usize) {
-    if n <= TABLE {
-        text::number(validity::check(&t[0..n]) as u64);
-    }
-}
-
-// Writes what the check gives for a table with one octet changed.
-fn tried(t: &[u8], place: usize, x: u8) {
-    let n = t.len();
-    let mut u = [0u8; TABLE];
-    if TABLE < n {
-        return;
-    }
-    if n <= place {
-        return;
-    }
-    octets::write(&mut u, 0, t);
-    u[place] = x;
-    check(u, n);
+// Writes what the check gives for the first n octets of a table, with one octet changed.
+fn tried(mut t: [u8; TABLE], n: usize, place: u8, x: u8) {
+    t[place as usize] = x;
+    text::number(validity::check(script::first(&t, n)) as u64);
 }
 
 // Writes the place of an octet, and what the check gives where that octet is changed to each value of the row in turn.
-fn changed(row: [u8; ROW], count: usize, t: &[u8]) {
+fn changed(scene: Scene, row: &[u8]) {
+    let table = scene.table;
+    let place = script::octet(row, 0);
     let mut j = 1;
-    text::octet(row[0]);
-    while j < ROW {
-        if count <= j {
-            return;
-        }
-        tried(t, row[0] as usize, row[j]);
+    text::digits(place as u64, 2);
+    while j < row.len() {
+        tried(table, scene.length, place, row[j]);
         j += 1;
     }
 }
 
-// Answers what a letter asks about a table.
-fn answer(letter: u8, row: [u8; ROW], count: usize, t: &[u8]) {
+// Answers what a letter asks.
+fn answer(scene: Scene, letter: u8, row: &[u8], given: &[u8], t: &[u8])
+    requires { ⌜ 34 ≤ length (now row) ⌝ }
+{
     match letter {
+        b'P' => field::precedence(given),
+        b'R' => field::reference(given),
+        b'Q' | b'S' => field::written(letter, row),
         b'V' => text::number(validity::check(t) as u64),
         b'G' => chosen(row, t),
         b'W' => stands(row, t),
-        b'X' => changed(row, count, t),
+        b'X' => changed(scene, given),
         b'N' => levels(),
         _ => lamp_map(t),
     }
 }
 
-// Answers a row about the first n octets of a table.
-pub fn asked(letter: u8, row: [u8; ROW], count: usize, t: &[u8], n: usize) {
-    if n <= t.len() {
-        text::put(b"=");
-        answer(letter, row, count, &t[0..n]);
-        text::put(b"\n");
-    }
+// Answers a row about the table of a scene.
+pub fn asked(scene: Scene, letter: u8, row: &[u8], given: &[u8])
+    requires { ⌜ 34 ≤ length (now row) ⌝ }
+{
+    let table = scene.table;
+    text::letter(b'=');
+    answer(
+        scene,
+        letter,
+        row,
+        given,
+        script::first(&table, scene.length),
+    );
+    text::letter(b'\n');
 }

@@ -1,89 +1,71 @@
 // The rows that read and write the two message fields.
+use crate::script;
 use crate::script::ROW;
 use crate::text;
 use fields::precedence::Precedence;
 use fields::reference::Reference;
+ghost use Prim.Native.Nat.{_≤_};
+ghost use lib.ListN.{length};
 
 // Reads a parameter of the row's octets: number; LFB, level and digits; service domain.
-fn precedence(octets: &[u8]) {
+pub fn precedence(octets: &[u8]) {
     let r = fields::precedence::read(octets);
     let digits = r.value.digits;
     text::number(r.number as u64);
-    text::octets(
-        &[
-            r.value.lfb,
-            r.value.level,
-            digits[0],
-            digits[1],
-            digits[2],
-            digits[3],
-        ],
-    );
+    text::barred(&[r.value.lfb, r.value.level], 0, 2);
+    text::octets(&digits, 0, 4);
     text::number(r.value.service as u64);
 }
 
 // Reads a reference of the row's octets: number, identity, point code.
-fn reference(octets: &[u8]) {
+pub fn reference(octets: &[u8]) {
     let r = fields::reference::read(octets);
     text::number(r.number as u64);
     text::number(r.value.identity as u64);
     text::number(r.value.point as u64);
 }
 
-// Writes LFB, level, four digits and service domain of a row into a buffer.
-fn precedence_written(row: [u8; ROW], buffer: &mut [u8]) {
-    let digits = [row[3], row[4], row[5], row[6]];
+// Writes LFB, level, four digits and service domain of a row, which stand after the size of the buffer.
+fn precedence_written(row: &[u8], buffer: &mut [u8]) -> u8
+    requires { ⌜ 11 ≤ length (now row) ⌝ }
+{
+    let digits = octets::split_four(octets::read_four(row, 3));
     let value = Precedence {
         level: row[2],
         lfb: row[1],
         digits,
-        service: octets::read_four(&row, 7),
+        service: octets::read_four(row, 7),
     };
-    text::number(fields::precedence::write(buffer, value) as u64);
-    text::octets(buffer);
+    fields::precedence::write(buffer, value)
 }
 
-// Writes identity and point code of a row into a buffer.
-fn reference_written(row: [u8; ROW], buffer: &mut [u8]) {
+// Writes identity and point code of a row, which stand after the size of the buffer.
+fn reference_written(row: &[u8], buffer: &mut [u8]) -> u8
+    requires { ⌜ 11 ≤ length (now row) ⌝ }
+{
     let value = Reference {
-        identity: octets::read_four(&row, 1),
+        identity: octets::read_four(row, 1),
         point: octets::join_two(row[5], row[6]),
     };
-    text::number(fields::reference::write(buffer, value) as u64);
-    text::octets(buffer);
+    fields::reference::write(buffer, value)
 }
 
-// Reads the first n octets of a row as the field of its letter.
-fn read(letter: u8, row: [u8; ROW], n: usize) {
-    if ROW < n {
-        return;
-    }
-    if letter == b'P' {
-        precedence(&row[0..n]);
-    } else {
-        reference(&row[0..n]);
-    }
-}
-
-// Writes the values of a row into a buffer of n octets, as the field of its letter.
-fn written(letter: u8, row: [u8; ROW], n: usize) {
-    let mut buffer = [0xeeu8; ROW];
-    if ROW < n {
-        return;
-    }
-    if letter == b'Q' {
-        precedence_written(row, &mut buffer[0..n]);
-    } else {
-        reference_written(row, &mut buffer[0..n]);
-    }
-}
-
-// Answers a row by its letter.
-pub fn row(letter: u8, row: [u8; ROW], n: usize) {
-    text::put(b"=");
+// Writes the values of a row into a buffer, as the field of its letter.
+fn field(letter: u8, row: &[u8], buffer: &mut [u8]) -> u8
+    requires { ⌜ 11 ≤ length (now row) ⌝ }
+{
     match letter {
-        b'P' | b'R' => read(letter, row, n),
-        _ => written(letter, row, row[0] as usize),
+        b'Q' => precedence_written(row, buffer),
+        _ => reference_written(row, buffer),
     }
-    text::put(b"\n");
+}
+
+// Writes the values of a row into a buffer of as many octets as its first one says.
+pub fn written(letter: u8, row: &[u8])
+    requires { ⌜ 11 ≤ length (now row) ⌝ }
+{
+    let mut buffer = [0xeeu8; ROW];
+    let n = script::octet(row, 0) as usize;
+    text::number(field(letter, row, script::room(&mut buffer, n)) as u64);
+    text::barred(&buffer, 0, n);
 }

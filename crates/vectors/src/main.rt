@@ -7,8 +7,11 @@ mod text;
 
 use libc::STDIN_FILENO;
 
+// The script has room for so many letters.
+const LETTERS: usize = 128 * 1024;
+
 fn main() {
-    let mut script = [0u8; 131072];
+    let mut script = [0u8; LETTERS];
     let n = io::read_full(STDIN_FILENO, &mut script);
-    scene::play(&script[..n]);
+    scene::play(script::first(&script, n));
 }

@@ -1,301 +1,280 @@
 // Scenes of the script: circuits, a table, its events one by one, and the same events as a list.
 use crate::asked;
-use crate::field;
 use crate::script;
 use crate::script::ROW;
-use crate::script::Row;
 use crate::text;
-ghost use Prim.Native.Nat.{_<_};
+use events::EVENT_SIZE;
+use events::MOST_EVENTS;
+use table::CIRCUIT_SIZE;
+use table::MOST_CIRCUITS;
+ghost use Prim.Native.Nat.{_<_, _≤_};
+ghost use lib.ListN.{length};
 
-const CIRCUIT: usize = 32;
+// A table has room for one more circuit than a table may have.
+pub const TABLE: usize = CIRCUIT_SIZE * (MOST_CIRCUITS + 1);
 
-// An event has so many octets, and so has its answer.
-const EVENT: usize = 16;
+// A list has room for two more events than a list may have, so that too many can be tried.
+const LIST: usize = EVENT_SIZE * (MOST_EVENTS + 2);
 
-// A table has room for 257 circuits, one more than a table may have.
-pub const TABLE: usize = 8224;
+// A scene plays at most so many events one by one: twice as many as a table has circuits.
+const PLAYED: usize = 2 * MOST_CIRCUITS;
 
-// A list has room for 4,098 events, so that too many can be tried.
-const LIST: usize = 65568;
+// The last of them starts before this place.
+const STARTS: usize = EVENT_SIZE * (PLAYED - 1) + 1;
 
-// How far a scene has come. table: the octets of its table. answer: the octets of an answer. events: the octets of the events so far.
-struct Scene {
-    table: usize,
-    answer: usize,
-    events: usize,
+// The octets of a circuit stand in a row before this place.
+const CIRCUIT_END: usize = CIRCUIT_SIZE + 1;
+
+// The low octet of its holder's identity stands at this place of a circuit.
+const IDENTITY: usize = 7;
+
+// A scene as far as it has come. length: the octets of its table. room: the octets of an answer. played: the octets of the events so far.
+pub struct Scene {
+    pub circuits: [u8; TABLE],
+    pub table: [u8; TABLE],
+    pub events: [u8; EVENT_SIZE * PLAYED],
+    pub answers: [u8; EVENT_SIZE * PLAYED],
+    pub length: usize,
+    pub room: usize,
+    pub played: usize,
 }
 
-// Stores the circuit of a row, whose octets stand after the first one of the row.
-fn circuit(number: u8, row: [u8; ROW], table: &mut [u8]) {
-    let place = CIRCUIT * (number as usize);
-    if table.len() < place + CIRCUIT {
-        return;
+// A scene begins with every circuit free.
+fn begun() -> Scene {
+    let free = [0u8; TABLE];
+    let none = [0u8; EVENT_SIZE * PLAYED];
+    Scene {
+        circuits: free,
+        table: free,
+        events: none,
+        answers: none,
+        length: 0,
+        room: EVENT_SIZE,
+        played: 0,
     }
-    octets::write(table, place, &row[1..CIRCUIT + 1]);
+}
+
+// Stores a circuit, whose octets stand in a row after the first one, held by the call of an identity's low octet.
+fn circuit(mut scene: Scene, number: u8, row: &[u8], identity: u8) -> Scene
+    requires { ⌜ 33 ≤ length (now row) ⌝ }
+{
+    let mut circuits = scene.circuits;
+    let place = CIRCUIT_SIZE * (number as usize);
+    octets::write(&mut circuits, place, &row[1..CIRCUIT_END]);
+    circuits[place + IDENTITY] = identity;
+    scene.circuits = circuits;
+    scene
 }
 
 // Stores the circuit of a row as circuit 0 and again after every so many others, with its own number as the identity of its holder.
-fn every(others: u8, row: [u8; ROW], table: &mut [u8]) {
-    let mut one = row;
+fn every(mut scene: Scene, others: u8, row: &[u8]) -> Scene
+    requires { ⌜ 33 ≤ length (now row) ⌝ }
+{
     let mut i = 0;
-    while i < 256 {
-        one[8] = i as u8;
-        circuit(i as u8, one, table);
+    while i < MOST_CIRCUITS {
+        let number = i as u8;
+        scene = circuit(scene, number, row, number);
         i += 1 + others as usize;
     }
+    scene
 }
 
-// Applies an event to the first t octets of a table, with the first n of a for its answer; 255 where there are fewer.
-fn lent(table: &mut [u8], t: usize, event: &[u8], a: &mut [u8], n: usize) -> u8 {
-    if table.len() < t {
-        return 255;
-    }
-    if a.len() < n {
-        return 255;
-    }
-    route::event(&mut table[0..t], event, &mut a[0..n])
+// Begins a table of the circuits, as long as a row says.
+fn tabled(mut scene: Scene, row: &[u8]) -> Scene {
+    let circuits = scene.circuits;
+    scene.table = circuits;
+    scene.length = octets::join_two(script::octet(row, 1), script::octet(row, 0)) as usize;
+    scene
 }
 
-// Writes the program's line for an answer.
-fn line(event: usize, a: [u8; ROW]) {
-    let mut text = [0u8; 80];
-    let mut answer = [0u8; EVENT];
-    octets::write(&mut answer, 0, &a[0..EVENT]);
-    let n = lines::event::line(&mut text, event as u64, answer);
+// Writes the program's line for the answer to an event.
+fn line(event: usize, answer: &[u8])
+    requires { ⌜ 16 ≤ length (now answer) ⌝ }
+{
+    let mut text = [0u8; lines::event::MOST_LETTERS];
+    let n = lines::event::line(&mut text, event as u64, events::answer_at(answer, 0));
     text::put(b" | ");
-    text::put(&text[0..n]);
+    text::put(script::first(&text, n));
 }
 
 // Writes what came back and the octets of the answer, and the program's line for them unless nothing was written.
-fn answered(number: u8, event: usize, a: [u8; ROW], n: usize) {
-    text::put(b"=");
+fn answered(number: u8, event: usize, answer: &[u8], n: usize)
+    requires { ⌜ 16 ≤ length (now answer) ⌝ }
+{
+    text::letter(b'=');
     text::number(number as u64);
-    if n <= ROW {
-        text::octets(&a[0..n]);
+    text::barred(answer, 0, n);
+    match number {
+        rules::number::WRONG_LENGTH => text::letter(b'\n'),
+        _ => line(event, answer),
     }
-    if number == 20 {
-        text::put(b"\n");
-    } else {
-        line(event, a);
-    }
+}
+
+// Keeps an event and its answer for the list.
+fn kept(mut scene: Scene, event: &[u8], answer: &[u8]) -> Scene
+    requires { ⌜ 16 ≤ length (now event) ⌝ }
+    requires { ⌜ 16 ≤ length (now answer) ⌝ }
+{
+    let at = scene.played % STARTS;
+    let mut events = scene.events;
+    let mut answers = scene.answers;
+    octets::write(&mut events, at, &event[0..EVENT_SIZE]);
+    octets::write(&mut answers, at, &answer[0..EVENT_SIZE]);
+    scene.events = events;
+    scene.answers = answers;
+    scene.played = at + EVENT_SIZE;
+    scene
 }
 
 // Plays one event by itself, and keeps it with its answer for the list.
-fn event(
-    now: Scene,
-    octets: [u8; ROW],
-    n: usize,
-    table: &mut [u8],
-    events: &mut [u8; LIST],
-    answers: &mut [u8; LIST],
-) -> Scene {
-    let at = now.events;
-    let mut a = [0xeeu8; ROW];
-    if LIST - EVENT < at {
-        return now;
-    }
-    if ROW < n {
-        return now;
-    }
-    let number = lent(table, now.table, &octets[0..n], &mut a, now.answer);
-    octets::write(events, at, &octets[0..EVENT]);
-    octets::write(answers, at, &a[0..EVENT]);
-    answered(number, at / EVENT + 1, a, now.answer);
-    Scene {
-        table: now.table,
-        answer: now.answer,
-        events: at + EVENT,
-    }
+fn event(mut scene: Scene, row: &[u8], given: &[u8]) -> Scene
+    requires { ⌜ 16 ≤ length (now row) ⌝ }
+{
+    let mut table = scene.table;
+    let mut answer = [0xeeu8; ROW];
+    let number = route::event(
+        script::room(&mut table, scene.length),
+        given,
+        script::room(&mut answer, scene.room),
+    );
+    scene.table = table;
+    answered(number, scene.played / EVENT_SIZE + 1, &answer, scene.room);
+    kept(scene, row, &answer)
 }
 
-// Whether the first n octets of two buffers are the same.
-fn same(a: &[u8], b: &[u8], n: usize) -> bool {
-    let mut k = 0;
-    while k < n {
-        if script::letter(a, k) != script::letter(b, k) {
-            return false;
-        }
-        k += 1;
-    }
-    true
-}
-
-// Writes one of two remarks.
-fn said(yes: bool, this: &[u8], that: &[u8]) {
-    if yes {
-        text::put(this);
+// Writes whether two buffers are the same, and what they are.
+fn compared(a: &[u8], b: &[u8], what: &[u8]) {
+    if check::same(a, b) {
+        text::put(b", the same");
     } else {
-        text::put(that);
+        text::put(b", OTHER");
     }
+    text::put(what);
 }
 
 // Writes the circuit at a place, if there is one.
-fn shown(t: &[u8], place: usize) {
-    if t.len() < CIRCUIT {
+fn shown(t: &[u8], place: usize)
+    requires { ⌜ place < 128 ⌝ }
+{
+    let end = place + CIRCUIT_SIZE;
+    if t.len() < end {
         return;
     }
-    if t.len() - CIRCUIT < place {
-        return;
-    }
-    text::put(b"=");
-    text::octets(&t[place..place + CIRCUIT]);
-    text::put(b"\n");
+    text::letter(b'=');
+    text::barred(t, place, end);
+    text::letter(b'\n');
 }
 
 // Writes the first four circuits of a table.
 fn circuits(t: &[u8]) {
     shown(t, 0);
-    shown(t, CIRCUIT);
-    shown(t, 2 * CIRCUIT);
-    shown(t, 3 * CIRCUIT);
+    shown(t, CIRCUIT_SIZE);
+    shown(t, 2 * CIRCUIT_SIZE);
+    shown(t, 3 * CIRCUIT_SIZE);
 }
 
 // Adds to a number of octets one that a row has in three octets, the high one first.
-fn more(n: usize, row: [u8; ROW], at: usize) -> usize
-    requires { ⌜ at < 4 ⌝ }
-{
-    std::num::wrapping_add_usize(
-        n,
-        octets::join_three(row[at + 2], row[at + 1], row[at]) as usize,
-    )
+fn more(n: usize, row: &[u8], high: usize, middle: usize, low: usize) -> usize {
+    let extra = octets::join_three(
+        script::octet(row, low),
+        script::octet(row, middle),
+        script::octet(row, high),
+    );
+    std::num::wrapping_add_usize(n, extra as usize)
 }
 
-// Writes what a list gave back, and compares its answers with those to the events one by one.
-fn list_answered(number: u8, places: &[u8; LIST], answers: &[u8], n: usize) {
-    text::put(b"=");
+// Writes what a list gave back, and whether it wrote nothing.
+fn list_answered(number: u8, places: &[u8]) {
+    text::letter(b'=');
     text::number(number as u64);
-    said(
-        same(places, &[0xeeu8; LIST], LIST),
-        b", nothing written",
-        b"",
-    );
-    said(
-        same(places, answers, n),
-        b", the same answers",
-        b", OTHER ANSWERS",
-    );
+    if check::same(places, &[0xeeu8; LIST]) {
+        text::put(b", nothing written");
+    }
 }
 
-// Plays the events as a list over the table that was kept for it, and compares what it leaves with the events one by one.
-fn list(now: Scene, row: [u8; ROW], table: &[u8], twin: &mut [u8], events: &[u8], answers: &[u8]) {
-    let n = now.events;
-    let e = more(n, row, 0);
-    let a = more(n, row, 3);
-    let t = now.table;
+// Compares what a list left with what the events one by one left.
+fn list_compared(scene: Scene, places: &[u8], t: &[u8]) {
+    let table = scene.table;
+    let answers = scene.answers;
+    let n = scene.played;
+    compared(
+        script::first(places, n),
+        script::first(&answers, n),
+        b" answers",
+    );
+    compared(t, &table, b" table\n");
+    circuits(script::first(&table, scene.length));
+}
+
+// The events of a scene, and zeros after them.
+fn listed(scene: Scene) -> [u8; LIST] {
+    let played = scene.events;
+    let mut events = [0u8; LIST];
+    octets::write(&mut events, 0, &played);
+    events
+}
+
+// Plays the events as a list over the circuits, and compares what it leaves with the events one by one.
+fn list(scene: Scene, row: &[u8]) {
+    let mut table = scene.circuits;
+    let events = listed(scene);
     let mut places = [0xeeu8; LIST];
-    if events.len() < e {
-        return;
-    }
-    if LIST < a {
-        return;
-    }
-    if table.len() < t {
-        return;
-    }
-    if twin.len() < t {
-        return;
-    }
-    let number = route::list(&mut twin[0..t], &events[0..e], &mut places[0..a]);
-    list_answered(number, &places, answers, n);
-    said(
-        same(twin, table, t),
-        b", the same table\n",
-        b", ANOTHER TABLE\n",
+    let number = route::list(
+        script::room(&mut table, scene.length),
+        script::first(&events, more(scene.played, row, 0, 1, 2)),
+        script::room(&mut places, more(scene.played, row, 3, 4, 5)),
     );
-    circuits(&table[0..t]);
+    list_answered(number, &places);
+    list_compared(scene, &places, &table);
 }
 
-// Plays a row that changes the circuits, asks about the table, or takes the events as a list.
-fn asking(
-    now: Scene,
-    letter: u8,
-    row: Row,
-    table: &mut [u8; TABLE],
-    twin: &mut [u8; TABLE],
-    events: &[u8],
-    answers: &[u8],
-) {
-    let octets = row.octets;
+// Plays a row by its letter.
+fn played(mut scene: Scene, letter: u8, row: &[u8], given: &[u8]) -> Scene
+    requires { ⌜ 34 ≤ length (now row) ⌝ }
+{
     match letter {
-        b'c' => circuit(octets[0], octets, table),
-        b'h' => every(octets[0], octets, table),
-        b'l' => list(now, octets, table, twin, events, answers),
-        b'P'..=b'S' => field::row(letter, octets, row.count),
-        b'A'..=b'Z' => asked::asked(letter, octets, row.count, table, now.table),
-        _ => {}
+        0 => begun(),
+        b'c' => circuit(scene, script::octet(row, 0), row, script::octet(row, 8)),
+        b'h' => every(scene, script::octet(row, 0), row),
+        b't' => tabled(scene, row),
+        b'a' => {
+            scene.room = script::octet(row, 0) as usize;
+            scene
+        }
+        b'e' => event(scene, row, given),
+        b'l' => {
+            list(scene, row);
+            scene
+        }
+        b'A'..=b'Z' => {
+            asked::asked(scene, letter, row, given);
+            scene
+        }
+        _ => scene,
     }
 }
 
-// Begins a table of the circuits, as long as a row says, kept once more for the list, which has no events yet.
-fn begun(
-    row: [u8; ROW],
-    table: &[u8; TABLE],
-    twin: &mut [u8; TABLE],
-    events: &mut [u8; LIST],
-) -> Scene {
-    octets::write(twin, 0, table);
-    octets::write(events, 0, &[0u8; LIST]);
-    Scene {
-        table: octets::join_two(row[1], row[0]) as usize,
-        answer: EVENT,
-        events: 0,
-    }
-}
-
-// Writes a line as it stands, and plays it by its letter.
-fn turn(
-    s: &[u8],
-    now: Scene,
-    table: &mut [u8; TABLE],
-    twin: &mut [u8; TABLE],
-    events: &mut [u8; LIST],
-    answers: &mut [u8; LIST],
-) -> Scene {
-    let letter = script::letter(s, 0);
-    let row = script::read(s);
-    let octets = row.octets;
-    text::put(s);
-    match letter {
-        b'\n' => {
-            octets::write(table, 0, &[0u8; TABLE]);
-            now
-        }
-        b't' => begun(octets, table, twin, events),
-        b'a' => Scene {
-            table: now.table,
-            answer: octets[0] as usize,
-            events: now.events,
-        },
-        b'e' => event(now, octets, row.count, table, events, answers),
-        _ => {
-            asking(now, letter, row, table, twin, events, answers);
-            now
-        }
-    }
+// Writes a line as it stands, and plays it.
+fn turn(scene: Scene, line: &[u8]) -> Scene {
+    let mut octets = [0u8; ROW];
+    let count = script::read(line, &mut octets);
+    text::put(line);
+    text::letter(b'\n');
+    played(
+        scene,
+        script::octet(line, 0),
+        &octets,
+        script::first(&octets, count),
+    )
 }
 
 // Plays every line of the script.
 pub fn play(s: &[u8]) {
-    let mut table = [0u8; TABLE];
-    let mut twin = [0u8; TABLE];
-    let mut events = [0u8; LIST];
-    let mut answers = [0u8; LIST];
-    let mut now = Scene {
-        table: 0,
-        answer: EVENT,
-        events: 0,
-    };
+    let mut scene = begun();
     let mut at = 0;
     while at < s.len() {
-        let next = script::end(s, at);
-        now = turn(
-            &s[at..next],
-            now,
-            &mut table,
-            &mut twin,
-            &mut events,
-            &mut answers,
-        );
-        at = next;
+        let end = bytes::scan::find(s, at, s.len(), b'\n');
+        scene = turn(scene, &s[at..end]);
+        at = end + 1;
     }
 }

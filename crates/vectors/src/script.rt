@@ -1,34 +1,33 @@
-// The lines of the script.
+// The lines of the script, and octets taken from a row whether it has them or not.
+use table::CIRCUIT_SIZE;
 ghost use Prim.Native.Nat.{_<_, _≤_};
 ghost use lib.ListN.{length};
 
 // A row has at most so many octets: one, and those of a circuit, with one to spare.
-pub const ROW: usize = 34;
+pub const ROW: usize = CIRCUIT_SIZE + 2;
 
-// The octets of a row, zero where it has no more, and how many it has.
-pub struct Row {
-    pub octets: [u8; ROW],
-    pub count: usize,
+// The octet at a place; zero where there is none.
+pub fn octet(s: &[u8], place: usize) -> u8 {
+    if place < s.len() { s[place] } else { 0 }
 }
 
-// The place after the line that starts at a place.
-pub fn end(s: &[u8], line: usize) -> usize
-    requires { ⌜ line < length (now s) ⌝ }
-    ensures { λ r. ⌜ (line < r) × (r ≤ length (now (s .entry))) ⌝ }
+// A number, or the most that it may be.
+fn within(n: usize, most: usize) -> usize
+    ensures { λ r. ⌜ r ≤ most ⌝ }
 {
-    let mut i = line + 1;
-    while i < s.len() {
-        if s[i - 1] == b'\n' {
-            return i;
-        }
-        i += 1;
-    }
-    i
+    if n < most { n } else { most }
 }
 
-// The letter in a column; a space where the line has ended.
-pub fn letter(s: &[u8], column: usize) -> u8 {
-    if column < s.len() { s[column] } else { b' ' }
+// The first n octets, or all where there are fewer.
+pub fn first(s: &[u8], n: usize) -> &[u8] {
+    let m = within(n, s.len());
+    &s[0..m]
+}
+
+// Room for n octets, or for all where there are fewer.
+pub fn room(s: &mut [u8], n: usize) -> &mut [u8] {
+    let m = within(n, s.len());
+    &mut s[0..m]
 }
 
 // The value of a digit: 0 to 9, and a to f, whose letters stand one after a multiple of 16.
@@ -38,17 +37,18 @@ fn digit(c: u8) -> u8
     (c % 16 + 9 * (c / 64)) % 16
 }
 
-// Reads the octets of a line: two hexadecimal digits each, after a letter and a space, to the first column that has none.
-pub fn read(s: &[u8]) -> Row {
-    let mut octets = [0u8; ROW];
+// Reads the octets of a line, two hexadecimal digits each, after a letter and a space, to the first column that has none; how many there are.
+pub fn read(s: &[u8], octets: &mut [u8]) -> usize
+    requires { ⌜ 34 ≤ length (now octets) ⌝ }
+{
     let mut k = 0;
     while k < ROW {
-        let high = letter(s, 3 * k + 2);
+        let high = octet(s, 3 * k + 2);
         if high <= b' ' {
-            return Row { octets, count: k };
+            return k;
         }
-        octets[k] = 16 * digit(high) + digit(letter(s, 3 * k + 3));
+        octets[k] = 16 * digit(high) + digit(octet(s, 3 * k + 3));
         k += 1;
     }
-    Row { octets, count: k }
+    k
 }

@@ -1,4 +1,5 @@
 // Cells of an answer on standard output, each after a space.
+use crate::script;
 use libc::STDOUT_FILENO;
 use rules::search::Found;
 
@@ -6,13 +7,23 @@ pub fn put(text: &[u8]) {
     io::write_all(STDOUT_FILENO, text);
 }
 
+pub fn letter(c: u8) {
+    put(&[c]);
+}
+
 // Writes a number, at least two columns wide.
 pub fn number(n: u64) {
     if n < 10 {
-        put(b" ");
+        letter(b' ');
     }
-    put(b" ");
+    letter(b' ');
     io::print_decimal(STDOUT_FILENO, n);
+}
+
+// Writes a number by so many hexadecimal digits.
+pub fn digits(n: u64, count: usize) {
+    letter(b' ');
+    io::print_hex(STDOUT_FILENO, n, count);
 }
 
 // Writes the circuit that a search found, or a dash.
@@ -23,23 +34,18 @@ pub fn found(f: Found) {
     }
 }
 
-// Writes a word of lamps.
-pub fn word(w: u64) {
-    put(b" ");
-    io::print_hex(STDOUT_FILENO, w, 16);
-}
-
-pub fn octet(x: u8) {
-    put(b" ");
-    io::print_hex(STDOUT_FILENO, x as u64, 2);
-}
-
-// Writes the octets of a buffer after a bar.
-pub fn octets(s: &[u8]) {
-    let mut k = 0;
-    put(b" |");
-    while k < s.len() {
-        octet(s[k]);
+// Writes the octets from a place to an end.
+pub fn octets(s: &[u8], from: usize, end: usize) {
+    let mut k = from;
+    while k < end {
+        digits(script::octet(s, k) as u64, 2);
         k += 1;
     }
+}
+
+// Writes a bar, and after it the octets from a place to an end.
+pub fn barred(s: &[u8], from: usize, end: usize) {
+    letter(b' ');
+    letter(b'|');
+    octets(s, from, end);
 }

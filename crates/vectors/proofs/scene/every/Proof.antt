@@ -1,16 +1,14 @@
 -- A circuit a turn.
 use Prim.Native.Nat.{_≤_, _-_}
-use mathlib.Core.Path.{_≡_}
-use lib.ListN.{length}
 use borrow.Author.Needs.{needs}
 use Rattle.vectors.proofs.scene.every.Statement.{statement}
 use Rattle.vectors.proofs.scene.every.Tie as tie
 
 abbrev Inv-loop : tie.InvT-loop
-Inv-loop others table₀ one₀ i₀ table one i = (length table ≡ length table₀) × (length one ≡ 34) × (i ≤ 512)
+Inv-loop scene₀ others row i₀ scene i = i ≤ 512
 
 abbrev μ-loop : tie.MeasureT-loop
-μ-loop others table₀ one₀ i₀ table one i = 256 - i
+μ-loop scene₀ others row i₀ scene i = 256 - i
 
 pub every-spec : {M : Type 1} → statement M
 every-spec =
@@ -20,10 +18,7 @@ every-spec =
     μ-loop
     (λ c. search needs)
     (λ c. search needs)
-    (λ c. search needs)
-    (λ c. search needs)
     (λ c κs. search needs)
-    (λ c. search needs)
     (λ c. search needs)
     (λ c. search needs)
     (λ c. search needs)

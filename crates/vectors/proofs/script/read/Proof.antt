@@ -7,7 +7,7 @@ use Rattle.vectors.proofs.script.read.Statement.{statement}
 use Rattle.vectors.proofs.script.read.Tie as tie
 
 abbrev Inv-loop : tie.InvT-loop
-Inv-loop s octets₀ k₀ octets k = (k ≤ 34) × (length octets ≡ 34)
+Inv-loop s octets₀ k₀ octets k = (k ≤ 34) × (length octets ≡ length octets₀)
 
 abbrev μ-loop : tie.MeasureT-loop
 μ-loop s octets₀ k₀ octets k = 34 - k
@@ -23,12 +23,14 @@ read-spec =
     (λ c. search needs)
     (λ c κs. search needs)
     (λ c. search needs)
+    (λ c. search needs)
     (λ c κs. search needs)
     (λ c. search needs)
     (λ c. search needs)
     (λ c. search needs)
     (λ c κs. search needs)
     (λ c κs. search needs)
+    (λ c. search needs)
     (λ c. search needs)
     (λ c. search needs)
     (λ c. search needs)

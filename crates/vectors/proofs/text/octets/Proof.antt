@@ -1,15 +1,14 @@
 -- An octet a turn.
 use Prim.Native.Nat.{_≤_, _-_}
-use lib.ListN.{length}
 use borrow.Author.Needs.{needs}
 use Rattle.vectors.proofs.text.octets.Statement.{statement}
 use Rattle.vectors.proofs.text.octets.Tie as tie
 
 abbrev Inv-loop : tie.InvT-loop
-Inv-loop s k₀ k = k ≤ length s
+Inv-loop s from end k₀ k = k ≤ k
 
 abbrev μ-loop : tie.MeasureT-loop
-μ-loop s k₀ k = length s - k
+μ-loop s from end k₀ k = end - k
 
 pub octets-spec : {M : Type 1} → statement M
 octets-spec =
@@ -19,7 +18,6 @@ octets-spec =
     μ-loop
     (λ c. search needs)
     (λ c κs. search needs)
-    (λ c. search needs)
     (λ c. search needs)
     (λ c κs. search needs)
     (λ c. search needs)
