@@ -1,4 +1,4 @@
-// What is answered to an event.
+// This crate says what is answered to an event.
 use rules::answer::Answer;
 use rules::answer::NO_DETAIL;
 use rules::circuit::Circuit;
@@ -17,7 +17,7 @@ ghost use Rattle.rules.specs.Answer.{noLoser, losers, anothers, answerOf};
 ghost use Rattle.rules.specs.Records.{circuits, circuitAt, mostCircuits};
 ghost use Rattle.rules.specs.Ready.{Ready};
 
-// An answer that names no loser.
+// Makes an answer that names no loser.
 fn no_loser(number: u8, detail: u16) -> Answer
     ensures { λ r. ⌜ r ≡ noLoser number detail ⌝ }
 {
@@ -31,7 +31,7 @@ fn no_loser(number: u8, detail: u16) -> Answer
     }
 }
 
-// One number where nobody is lost, another where a holder or a reservation is.
+// Gives the number `none` where nobody is lost, and `some` where a holder or a reservation is.
 fn either(none: u8, some: u8, call: Part, reservation: Part) -> u8
     ensures { λ r. ⌜ r ≡ cond (call .present || reservation .present) some none ⌝ }
 {
@@ -41,7 +41,7 @@ fn either(none: u8, some: u8, call: Part, reservation: Part) -> u8
     if reservation.present { some } else { none }
 }
 
-// An answer that names whoever was lost.
+// Makes an answer that names whoever was lost.
 fn losers(none: u8, some: u8, detail: u16, call: Part, reservation: Part) -> Answer
     ensures { λ r. ⌜ r ≡ losers none some detail call reservation ⌝ }
 {
@@ -54,7 +54,7 @@ fn losers(none: u8, some: u8, detail: u16, call: Part, reservation: Part) -> Ans
     }
 }
 
-// A reservation of another call than the one with this reference.
+// Gives a reservation if it is of another call than the one with this reference, else nobody.
 fn another(reference: Reference, p: Part) -> Part
     ensures { λ r. ⌜ r ≡ anothers reference p ⌝ }
 {
@@ -65,7 +65,7 @@ fn another(reference: Reference, p: Part) -> Part
     }
 }
 
-// The answer to an act on circuit i, which was c.
+// Gives the answer to an act on circuit i, which was c.
 fn acted(e: Event, a: Act, i: u16, c: Circuit) -> Answer
     ensures { λ r. ⌜ r ≡ answerOf (λ _. c) 0 e (Outcome.Do a i) ⌝ }
 {
@@ -90,14 +90,14 @@ fn acted(e: Event, a: Act, i: u16, c: Circuit) -> Answer
     }
 }
 
-// What a circuit adds to a count: 1 where it counts, else 0.
+// Gives what a circuit adds to a count: 1 where it counts, else 0.
 fn one(counts: bool) -> u16
     ensures { λ r. ⌜ (r ≡ cond counts 1 0) × (r ≤ 1) ⌝ }
 {
     if counts { 1 } else { 0 }
 }
 
-// How many reservations are overdue.
+// Counts the reservations that are overdue.
 fn removed(t: &[u8], clock: u32) -> u16
     requires { ⌜ circuits (now t) ≤ mostCircuits ⌝ }
     ensures { λ r. ⌜ r ≡ countTo (λ i. overdue clock (circuitAt (now (t .entry)) i)) (circuits (now (t .entry))) ⌝ }
@@ -112,7 +112,7 @@ fn removed(t: &[u8], clock: u32) -> u16
     k
 }
 
-// The answer to what was decided, before the table is changed.
+// Gives the answer to what was decided, from the table before it is changed.
 pub fn answered(t: &[u8], e: Event, o: Outcome) -> Answer
     requires { ⌜ circuits (now t) ≤ mostCircuits ⌝ }
     requires { ⌜ Ready (now t) o ⌝ }

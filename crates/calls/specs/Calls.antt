@@ -1,5 +1,5 @@
--- Demand 3 of the entries that C and Rust link. On this page a call is one that a host makes of naustvri_list or of naustvri_event, and
--- nothing is known of it but what the contract of that entry promises.
+-- This is demand 3 of the entries that C and Rust link. On this page a call is one that a host makes of naustvri_list or of
+-- naustvri_event, and nothing is known of it but what the contract of that entry promises.
 use Prim.Native.Nat.{ℕ, _/_, _<_, _≤_}
 use mathlib.Core.Path.{_≡_}
 use mathlib.Core.Bool.{cond}
@@ -23,8 +23,8 @@ use Rattle.naustvri.proofs.naustvri_event.Reads as event
 pub data Entry : Type 0 where  -- the two entries that take events: naustvri_list and naustvri_event
   list-entry event-entry : Entry
 
--- the contract of each as the prover reads it, over what is lent, what comes back and what is left; both are lent a table, events and
--- places for the answers, and a number comes back
+-- the contract of each entry as the prover reads it, over what is lent, what comes back and what is left; both are lent a table,
+-- events and places for the answers, and a number comes back
 abbrev pub Contract : Entry → Out 3 kinds.ps kinds.r
 Contract list-entry = list.Post
 Contract event-entry = event.Post
@@ -42,7 +42,7 @@ module _ (c : Call) where
   abbrev pub table : List ℕ  -- the table that is lent
   table = now (c .lent .0)
 
-  abbrev pub events : List ℕ  -- the events that are lent: one for the event entry
+  abbrev pub events : List ℕ  -- the events that are lent, which are one for the event entry
   events = now (c .lent .1 .0)
 
   abbrev pub places : List ℕ  -- the places that are lent for the answers
@@ -87,7 +87,7 @@ Demand3 =
     → NewSetUp n (history ps) (eventAt (events next))
     → Answered n (history ps) (history (ps ++ adds next)) (eventAt (events next)) (answers next)
 
--- the same of a set-up at any place of any of the calls: before and later are the rest of the past
+-- demand 3 holds of a set-up that stands anywhere in any of the calls: before and later are the rest of the past
 abbrev pub Demand3Within : Type 0
 Demand3Within =
     (n : ℕ) (u : List ℕ) (before : List Turn) (p : Turn) (later : List Turn) → Calls n u (before ++ p ∷ later)
@@ -102,6 +102,6 @@ pub record CallWith (w : Entry) (t es room : List ℕ) : Type 0 where
   pub lends-events : events call ≡ es
   pub lends-places : places call ≡ room
 
--- the contracts allow such a call whatever the octets are, so the claims above are not empty
+-- the contracts allow a call whatever its octets are, so the claims above are not empty
 abbrev pub AnyOctets : Type 0
 AnyOctets = (w : Entry) (t es room : List ℕ) → CallWith w t es room

@@ -1,4 +1,4 @@
--- The best circuit so far, carried along a route with its rank.
+-- The best circuit so far is carried along a route with its rank.
 use Prim.Native.Nat.{ℕ, zero, suc}
 use mathlib.Core.Bool.{cond}
 use lib.Dec.{ltb}
@@ -6,7 +6,7 @@ use Rattle.rules.specs.declared.search.Found.{Found}
 use Rattle.rules.specs.declared.search.Found.the-variants.{At, Nothing}
 use Rattle.choice.specs.declared.Best.{Best}
 
-abbrev pub improved : Best → ℕ → ℕ → Best  -- circuit i of a greater rank takes its place
+abbrev pub improved : Best → ℕ → ℕ → Best  -- circuit i of a greater rank replaces the best so far
 improved b here i = cond (ltb (b .rank) here) (record { rank = here; at = i }) b
 
 abbrev pub foundIn : Best → Found  -- rank 0 means that nothing was found

@@ -1,4 +1,4 @@
-// Searches of a route: the circuit that a call with some mark gets, and the one that a call holds or has reserved.
+// This crate searches a route for the circuit that a call with some mark gets, and for the one that a call holds or has reserved.
 use rules::circuit::Circuit;
 use rules::mark::Mark;
 use rules::part::Reference;
@@ -12,14 +12,14 @@ ghost use Rattle.rules.specs.Records.{circuits, circuitAt};
 ghost use Rattle.rules.specs.Choice.{choice, heldBy, reservedBy};
 ghost use Rattle.choice.specs.Best.{improved, foundIn};
 
-// The greatest rank so far, and the lowest circuit that has it; rank 0 where none was takeable.
+// This is the greatest rank so far, and the lowest circuit that has it; the rank is 0 where none was takeable.
 struct Best {
     rank: usize,
     at: usize,
 }
 
 impl Best {
-    // The best after circuit i: of equals the earlier one stays. Its level and its worth are compared before its domain, which seldom has to be.
+    // Gives the best after circuit i; of equals the earlier one stays. The domain is compared last, since it seldom has to be.
     fn improved(self, circuit: Circuit, by: Mark, i: usize) -> Best
         ensures { λ r. ⌜ r ≡ improved self (rank by circuit) i ⌝ }
     {
@@ -48,7 +48,7 @@ impl Best {
     }
 }
 
-// The circuit that a call with this mark gets: the lowest free one, else the best takeable one.
+// Finds the circuit that a call with this mark gets: the lowest free one, else the best takeable one.
 pub fn choose(t: &[u8], by: Mark) -> Found
     ensures { λ r. ⌜ r ≡ choice (circuitAt (now (t .entry))) (circuits (now (t .entry))) by ⌝ }
 {
@@ -66,7 +66,7 @@ pub fn choose(t: &[u8], by: Mark) -> Found
     best.found()
 }
 
-// The circuit on which the call with this reference stands: on side 0 the holders, on side 1 the reservations.
+// Finds the circuit on which the call with this reference stands: side 0 is the holders', and side 1 the reservations'.
 fn circuit_of(t: &[u8], reference: Reference, side: usize) -> Found
     requires { ⌜ side < 2 ⌝ }
     ensures { λ r. ⌜ r ≡ firstTo (λ i. isOf reference (partNumbered (circuitAt (now (t .entry))) (2 * i + side))) (circuits (now (t .entry))) ⌝ }
@@ -82,14 +82,14 @@ fn circuit_of(t: &[u8], reference: Reference, side: usize) -> Found
     Found::Nothing
 }
 
-// The circuit that the call with this reference holds.
+// Finds the circuit that the call with this reference holds.
 pub fn held_by(t: &[u8], reference: Reference) -> Found
     ensures { λ r. ⌜ r ≡ heldBy (circuitAt (now (t .entry))) (circuits (now (t .entry))) reference ⌝ }
 {
     circuit_of(t, reference, 0)
 }
 
-// The circuit that the call with this reference has reserved.
+// Finds the circuit that the call with this reference has reserved.
 pub fn reserved_by(t: &[u8], reference: Reference) -> Found
     ensures { λ r. ⌜ r ≡ reservedBy (circuitAt (now (t .entry))) (circuits (now (t .entry))) reference ⌝ }
 {

@@ -1,5 +1,5 @@
--- The customer's two accidents, which cannot happen: a mark left on a circuit whose party is gone, and a reservation gone for no reason;
--- nor is a holder gone for none; and no call in two places.
+-- The customer's two accidents cannot happen: a mark left on a circuit whose party is gone, and a reservation gone for no reason. Nor is
+-- a holder gone for none, and no call is in two parts.
 use Prim.Native.Nat.{ℕ, _+_, _*_, _-_, _%_, _<_, _≤_}
 use mathlib.Core.Path.{_≡_}
 use mathlib.Core.Logic.{_⊎_}
@@ -16,11 +16,11 @@ use Rattle.claims.specs.History.{Turn, asked, afterTurn, history}
 use Rattle.claims.specs.Lists.{EventList, tableAfter, past}
 use Rattle.claims.specs.Demand.{StandsIn}
 
--- record c of table t, where the history shows circuit y
+-- what stands in record c of table t, where the history shows circuit y
 pub record OnlyWithParty (t : List ℕ) (c : ℕ) (y : Circuit) : Type 0 where
   -- each party on record, its mark and its reference, is the one that the history shows
   pub shows : circuitAt t c ≡ y
-  -- where it shows no holder, every octet of the holder's part is zero; where it shows no reservation, every one of the reservation's
+  -- where the history shows no holder, every octet of the holder's part is zero; where it shows no reservation, all of the reservation's
   pub no-holder : y .holder .present ≡ false → zeros (holderOctets t c) ≡ true
   pub no-reservation : y .reservation .present ≡ false → zeros (reservationOctets t c) ≡ true
 
@@ -57,16 +57,16 @@ Old clock y = 3000 ≤ (clock + 4294967296 - y .clock) % 4294967296
 
 -- turn p takes the reservation of circuit c, which is y, away
 pub data Goes (c : ℕ) (y : Circuit) (p : Turn) : Type 0 where
-  -- its own set-up, answered by 1 or 2: the call then holds the circuit
+  -- a reservation goes by its own set-up, answered by 1 or 2: the call then holds the circuit
   own-set-up : Own 1 c (y .reservation) p → (answerNumber (p .answer) ≡ number.seized) ⊎ (answerNumber (p .answer) ≡ number.seizedWithLoss) → Goes c y p
-  -- its cancel, answered by 6
+  -- a reservation goes by its cancel, answered by 6
   cancelled : Own 4 c (y .reservation) p → answerNumber (p .answer) ≡ number.cancelled → Goes c y p
-  -- a set-up or look-ahead of a strictly higher call in the same domain, whose answer names it
+  -- a reservation goes by a set-up or look-ahead of a strictly higher call in the same domain, whose answer names it
   higher-call : (asked p .kind ≡ 1) ⊎ (asked p .kind ≡ 3) → Taken lostReservation c (y .reservation) p → Goes c y p
-  -- a clock event, answered by 7, at 3,000 steps or more
+  -- a reservation goes by a clock event, answered by 7, at 3,000 steps or more
   overdue : asked p .kind ≡ 5 → answerNumber (p .answer) ≡ number.clockTaken → Old (asked p .clock) y → Goes c y p
 
-abbrev pub Stays : Circuit → Circuit → Type 0  -- the same party has it reserved since the same clock
+abbrev pub Stays : Circuit → Circuit → Type 0  -- the same party has the circuit reserved since the same clock
 Stays y z = (z .reservation ≡ y .reservation) × (z .clock ≡ y .clock)
 
 -- THE SECOND ACCIDENT: "a reservation goes only by its own set-up, its cancel, a strictly higher call in the same domain whose answer
@@ -74,7 +74,7 @@ Stays y z = (z .reservation ≡ y .reservation) × (z .clock ≡ y .clock)
 abbrev pub NoReservationLost : Type 0
 NoReservationLost = StaysOrGoes (λ y. y .reservation) Stays Goes
 
--- and by the history, which by HistoryTells is the table's own, a clock event that was taken removes each reservation that is old, and no other
+-- by the history, which by HistoryTells is the table's own, a clock event that was taken removes each old reservation, and no other
 abbrev pub OldOnesGo : Type 0
 OldOnesGo =
     (p : Turn) (c : ℕ) (y : Circuit) → answerNumber (p .answer) ≡ number.clockTaken → y .reservation .present ≡ true
@@ -82,20 +82,20 @@ OldOnesGo =
 
 -- turn p takes the holder of circuit c, which is y, away
 pub data HolderGoes (c : ℕ) (y : Circuit) (p : Turn) : Type 0 where
-  -- its release, answered by 5
+  -- a holder goes by its release, answered by 5
   released : Own 2 c (y .holder) p → answerNumber (p .answer) ≡ number.released → HolderGoes c y p
-  -- the set-up of a strictly higher call in the same domain, with a reservation there or without, answered by 2 and the holder's name
+  -- a holder goes by a strictly higher call's set-up in the same domain, with a reservation or not, answered by 2 and the holder's name
   higher-set-up : asked p .kind ≡ 1 → answerNumber (p .answer) ≡ number.seizedWithLoss → Taken lostCall c (y .holder) p → HolderGoes c y p
 
-abbrev pub HolderStays : Circuit → Circuit → Type 0  -- the same party holds it under the same mark
+abbrev pub HolderStays : Circuit → Circuit → Type 0  -- the same party holds the circuit under the same mark
 HolderStays y z = z .holder ≡ y .holder
 
--- the same of a holder, which goes only by its release or the set-up of a strictly higher call in the same domain whose answer names it:
+-- a holder goes only by its release or the set-up of a strictly higher call in the same domain whose answer names it:
 -- at a look-ahead "a holder stays", at a cancel "the other part stays", and a clock event takes reservations alone
 abbrev pub NoHolderLost : Type 0
 NoHolderLost = StaysOrGoes (λ y. y .holder) HolderStays HolderGoes
 
--- call reference r, where x c is what the history shows of circuit c
+-- call reference r stands in one part at most, where x c is what the history shows of circuit c
 pub record InOnePart (n : ℕ) (x : ℕ → Circuit) (r : List ℕ) : Type 0 where
   pub one-held : (c d : ℕ) → c < n → d < n → StandsIn r (x c .holder) → StandsIn r (x d .holder) → c ≡ d
   pub one-reserved : (c d : ℕ) → c < n → d < n → StandsIn r (x c .reservation) → StandsIn r (x d .reservation) → c ≡ d

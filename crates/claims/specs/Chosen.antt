@@ -1,4 +1,4 @@
--- 01, "Rules of choice", in plain words and not through the search that computes it: x c is what the history shows of circuit c, and there are n circuits.
+-- This is 01, "Rules of choice", in plain words and not through a search: x c is what the history shows of circuit c, of n circuits.
 use Prim.Native.Nat.{ℕ, _<_}
 use mathlib.Core.Path.{_≡_}
 use mathlib.Core.Logic.{_≢_}
@@ -22,11 +22,11 @@ pub record Lower (m : Mark) (y : Circuit) : Type 0 where
 
 -- circuit i, which is y, is taken rather than circuit j, which is z
 pub data Rather (i : ℕ) (y : Circuit) (j : ℕ) (z : Circuit) : Type 0 where
-  -- the greatest level number
+  -- the greatest level number is taken first
   lower-precedence : standing z .level .0 < standing y .level .0 → Rather i y j z
-  -- at equal level one with no holder before one with a holder
+  -- at equal level one with no holder is taken before one with a holder
   no-holder : standing y .level .0 ≡ standing z .level .0 → y .holder .present ≡ false → z .holder .present ≡ true → Rather i y j z
-  -- then the lowest number
+  -- at equal level, both with a holder or both with none, the lowest number is taken
   lower-number : standing y .level .0 ≡ standing z .level .0 → y .holder .present ≡ z .holder .present → i < j → Rather i y j z
 
 module _ (x : ℕ → Circuit) (n : ℕ) where
@@ -42,7 +42,7 @@ module _ (x : ℕ → Circuit) (n : ℕ) where
     pub free : Free (x i)
     pub first : (j : ℕ) → j < i → Free (x j) → ⊥
 
-  -- none is free, and circuit i is the one of lowest precedence, by 01's tie rule
+  -- no circuit is free, and circuit i is the one of lowest precedence, by 01's tie rule
   pub record Lowest (m : Mark) (i : ℕ) : Type 0 where
     pub there : i < n
     pub none-free : NoneFree

@@ -1,4 +1,4 @@
--- The customer's demand 3: "From an empty table of 1 to 256 circuits, after any lists of events, refused ones too: who holds and who
+-- The customer's demand 3 is: "From an empty table of 1 to 256 circuits, after any lists of events, refused ones too: who holds and who
 -- has reserved each circuit follows from the past events and answers alone; a well-formed set-up whose reference holds and reserves
 -- nothing is refused for want of a circuit exactly if none is free and none stands under a strictly lower precedence in the same
 -- domain; else it gets the first free one, failing that the lowest-precedence one by 01's tie rule, and the losers named are exactly
@@ -42,7 +42,7 @@ pub record NewSetUp (n : ℕ) (x : ℕ → Circuit) (e : Event) : Type 0 where
 abbrev pub ForWant : List ℕ → Type 0
 ForWant a = (answerNumber a ≡ 30) ⊎ (answerNumber a ≡ 31)
 
--- the whole answer then: ROUTINE 30 with cause 34, others 31 with cause 46; 65535; zeros
+-- the whole answer for want of a circuit: ROUTINE gets 30 with cause 34, others 31 with cause 46; then come 65535 and zeros
 abbrev pub wantOctets : Bool → List ℕ
 wantOctets ofRoutine =
     cond ofRoutine (answerFields 30 34 noDetail nobodyLost nobodyLost) (answerFields 31 46 noDetail nobodyLost nobodyLost)
@@ -72,12 +72,12 @@ pub record Gets (n : ℕ) (x y : ℕ → Circuit) (e : Event) (a : List ℕ) : T
 pub record Answered (n : ℕ) (x y : ℕ → Circuit) (e : Event) (a : List ℕ) : Type 0 where
   -- "is refused for want of a circuit exactly if none is free and none stands under a strictly lower precedence in the same domain"
   pub exactly : ForWant a ↔ (NoneFree x n × NoneLower x n (e .mark))
-  -- that is then the whole answer, and the history shows what it showed
+  -- where a set-up is refused for want of a circuit, wantOctets is the whole answer, and the history shows what it showed
   pub refused : ForWant a → (a ≡ wantOctets (isRoutine (e .mark .level))) × ((c : ℕ) → c < n → y c ≡ x c)
   -- "else it gets .."
   pub otherwise : (ForWant a → ⊥) → Gets n x y e a
 
--- DEMAND 3: after any lists given to the list entry, of a set-up given to it as a list of one event
+-- DEMAND 3 holds of a set-up given to the list entry as a list of one event, after any lists given to it
 abbrev pub Demand3 : Type 0
 Demand3 =
     (n : ℕ) → 1 ≤ n → n ≤ mostCircuits
@@ -87,7 +87,7 @@ Demand3 =
     (history (past (emptyTable n) (lists ++ record { events = e; places = place } ∷ [])))
     (eventAt e) (listAnswers (tableAfter (emptyTable n) lists) e place)
 
--- the same of a set-up at any place of any list: before and later are the rest of the past
+-- demand 3 holds of a set-up that stands anywhere in any list: before and later are the rest of the past
 abbrev pub Demand3Within : Type 0
 Demand3Within =
     (n : ℕ) (lists : List EventList) (before : List Turn) (p : Turn) (later : List Turn)

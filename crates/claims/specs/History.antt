@@ -1,4 +1,4 @@
--- The history: who holds and who has reserved each circuit, under which mark and since which clock, from the past events and their
+-- The history tells who holds and who has reserved each circuit, under which mark and since which clock, from the past events and their
 -- answers alone. It looks at no table.
 use Prim.Native.Nat.{ℕ, _+_, _-_, _%_}
 use mathlib.Core.Bool.{Bool, true, cond, _&&_, _||_}
@@ -16,28 +16,28 @@ pub record Turn : Type 0 where
   pub event : List ℕ
   pub answer : List ℕ
 
-abbrev pub asked : Turn → Event  -- what its event says
+abbrev pub asked : Turn → Event  -- what the event of a turn says
 asked p = eventAt (p .event)
 
 abbrev pub caller : Event → Part  -- the event's call as it stands in a part: present, under the event's mark, by its reference
 caller e = record { present = true; mark = e .mark; reference = e .reference }
 
-abbrev pub unreserved : Circuit → Circuit  -- nobody has reserved it, and a holder stays
+abbrev pub unreserved : Circuit → Circuit  -- the circuit with nobody's reservation, and with its holder
 unreserved y = record { holder = y .holder; reservation = nobody; clock = 0 }
 
 -- what event e, answered by number k, makes of the circuit y that the answer names
 unfoldable pub named : Event → ℕ → Circuit → Circuit
 named e k y =
-    -- 1 / 2 seized: the call holds it, with no reservation
+    -- 1 / 2 seized: the call holds the circuit, with no reservation
     cond (eqb k number.seized || eqb k number.seizedWithLoss) (record { holder = caller e; reservation = nobody; clock = 0 })
-    -- 3 / 4 reserved: the call has reserved it since the event's clock, and a holder stays
+    -- 3 / 4 reserved: the call has reserved the circuit since the event's clock, and a holder stays
     (cond (eqb k number.reserved || eqb k number.reservedWithLoss) (record { holder = y .holder; reservation = caller e; clock = e .clock })
-    -- 5 released: nobody holds it, and a reservation stays
+    -- 5 released: nobody holds the circuit, and a reservation stays
     (cond (eqb k number.released) (record { holder = nobody; reservation = y .reservation; clock = y .clock })
-    -- 6 cancelled: nobody has reserved it, and a holder stays
+    -- 6 cancelled: nobody has reserved the circuit, and a holder stays
     (cond (eqb k number.cancelled) (unreserved y) y)))
 
--- a reservation that was made 3,000 steps ago or more, modulo 4,294,967,296
+-- the circuit has a reservation that was made 3,000 steps ago or more, modulo 4,294,967,296
 abbrev pub old : ℕ → Circuit → Bool
 old clock y = y .reservation .present && leb 3000 ((clock + 4294967296 - y .clock) % 4294967296)
 
@@ -47,7 +47,7 @@ unfoldable pub afterAnswer : Event → ℕ → ℕ → ℕ → Circuit → Circu
 afterAnswer e k i c y =
     cond (eqb k number.clockTaken) (cond (old (e .clock) y) (unreserved y) y) (cond (eqb i c) (named e k y) y)
 
-abbrev pub afterTurn : Turn → ℕ → Circuit → Circuit  -- the same, read from the octets
+abbrev pub afterTurn : Turn → ℕ → Circuit → Circuit  -- what circuit c, which was y, is after turn p
 afterTurn p c y = afterAnswer (asked p) (answerNumber (p .answer)) (answerDetail (p .answer)) c y
 
 -- circuit c after these turns, the oldest first, if it was y before them
@@ -55,7 +55,7 @@ abbrev pub historyFrom : Circuit → List Turn → ℕ → Circuit
 historyFrom y [] c = y
 historyFrom y (p ∷ ps) c = historyFrom (afterTurn p c y) ps c
 
-abbrev pub empty : Circuit  -- nobody holds it, and nobody has reserved it
+abbrev pub empty : Circuit  -- nobody holds the circuit, and nobody has reserved it
 empty = record { holder = nobody; reservation = nobody; clock = 0 }
 
 abbrev pub history : List Turn → ℕ → Circuit  -- circuit c, by all that ever was asked and answered

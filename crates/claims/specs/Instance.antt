@@ -13,17 +13,17 @@ use Rattle.claims.specs.History.{history}
 use Rattle.claims.specs.Lists.{EventList, tableAfter, past}
 use Rattle.claims.specs.Demand.{NewSetUp}
 
--- a ROUTINE call takes the only circuit and a malformed set-up is refused; then a list with too few answer places is
+-- a ROUTINE call takes the only circuit and a malformed set-up is refused; then a list with too few answer places is refused
 unfoldable pub earlier : List EventList
 earlier =
     record { events = setsUp 1 routine ++ setsUp 2 0x62; places = replicate (2 * answerSize) 255 }
     ∷ record { events = setsUp 3 priority; places = [] }
     ∷ []
 
-unfoldable pub shown : ℕ → Circuit  -- what the history then shows
+unfoldable pub shown : ℕ → Circuit  -- what the history shows after the earlier lists
 shown = history (past (emptyTable 1) earlier)
 
-unfoldable pub answerTo : List ℕ → List ℕ  -- what the list entry then answers
+unfoldable pub answerTo : List ℕ → List ℕ  -- what the list entry answers to e after the earlier lists
 answerTo e = listAnswers (tableAfter (emptyTable 1) earlier) e (replicate answerSize 255)
 
 -- a new PRIORITY call gets the circuit from call 1, point code 1, and a new ROUTINE call gets none

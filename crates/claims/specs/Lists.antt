@@ -1,4 +1,4 @@
--- Lists of events given to the list entry one after another, and the past that they leave.
+-- Lists of events are given to the list entry one after another, and leave a past.
 use Prim.Native.Nat.{ℕ, zero, suc, _*_, _/_}
 use mathlib.Core.Bool.{cond}
 use mathlib.Core.List.{List, [], _∷_, _++_}

@@ -1,4 +1,4 @@
--- What holds of every table, one that is not valid too: a list is its events one by one, validity is kept, and a refusal changes nothing.
+-- This holds of every table, one that is not valid too: a list is its events one by one, validity is kept, and a refusal changes nothing.
 use Prim.Native.Nat.{ℕ, _%_, _≤_, _<_, _*_, _/_}
 use mathlib.Core.Path.{_≡_}
 use mathlib.Core.Logic.{_↔_, _≢_}
@@ -14,7 +14,7 @@ use Rattle.route.specs.Entries.{eventNumber, eventTable, eventAnswer, listNumbe
 use Rattle.claims.specs.History.{Turn, afterTurn}
 use Rattle.claims.specs.Lists.{EventList, tableAfter, past}
 
--- each event given to the event entry alone, with a zero answer to write on: it leaves the answer that the past has, and in the end
+-- each event is given to the event entry alone, with a zero answer to write on: it leaves the answer that the past has, and in the end
 -- table t is u
 abbrev pub EventByEvent : List ℕ → List Turn → List ℕ → Type 0
 EventByEvent t [] u = t ≡ u
@@ -25,7 +25,7 @@ EventByEvent t (p ∷ ps) u =
 abbrev pub OneByOne : Type 0
 OneByOne = (t : List ℕ) (lists : List EventList) → EventByEvent t (past t lists) (tableAfter t lists)
 
--- 1 to 256 whole circuits, 0 to 4,096 whole events, and a place for the answer to each
+-- there are 1 to 256 whole circuits, 0 to 4,096 whole events, and a place for the answer to each
 pub record RightLengths (t es places : List ℕ) : Type 0 where
   pub circuits : length t % circuitSize ≡ 0
   pub some : circuitSize ≤ length t
@@ -55,7 +55,7 @@ EventKeepsValid = (t e place : List ℕ) → checkNumber (eventTable t e place) 
 abbrev pub ListKeepsValid : Type 0
 ListKeepsValid = (t es places : List ℕ) → checkNumber (listTable t es places) ≡ checkNumber t
 
--- so it gives 0 after any lists from an empty table
+-- the check gives 0 after any lists from an empty table
 abbrev pub AlwaysValid : Type 0
 AlwaysValid = (n : ℕ) → 1 ≤ n → n ≤ mostCircuits → (lists : List EventList) → checkNumber (tableAfter (emptyTable n) lists) ≡ number.done
 
@@ -63,17 +63,17 @@ AlwaysValid = (n : ℕ) → 1 ≤ n → n ≤ mostCircuits → (lists : List Eve
 abbrev pub RefusalKeepsTable : Type 0
 RefusalKeepsTable = (t e place : List ℕ) → number.wrongLength ≤ eventNumber t e place → eventTable t e place ≡ t
 
--- and the answer is the number, the cause, 65535 and zeros
+-- the answer to a refused event is the number, the cause, 65535 and zeros; at 20 nothing is written
 abbrev pub RefusalAnswers : Type 0
 RefusalAnswers =
     (t e place : List ℕ) → number.wrongLength < eventNumber t e place
     → eventAnswer t e place ≡ answerFields (eventNumber t e place) (causeOf (eventNumber t e place)) noDetail nobodyLost nobodyLost
 
--- and what the history shows stays, whatever circuit it showed; by HistoryTells the history is the table's own
+-- a refusal keeps what the history shows, whatever circuit it showed; by HistoryTells the history is the table's own
 abbrev pub RefusalKeepsHistory : Type 0
 RefusalKeepsHistory = (p : Turn) (c : ℕ) (y : Circuit) → number.wrongLength ≤ answerNumber (p .answer) → afterTurn p c y ≡ y
 
--- nor does a list that is refused by 20 write anything
+-- a list that is refused by 20 writes nothing
 abbrev pub RefusedList : Type 0
 RefusedList =
     (t es places : List ℕ) → listNumber t es places ≡ number.wrongLength → (listTable t es places ≡ t) × (listAnswers t es places ≡ places)

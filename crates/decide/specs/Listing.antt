@@ -1,4 +1,4 @@
--- 01, "The program and its whole output": one line an event, the events numbered from 1 and running on over lists.
+-- This is 01, "The program and its whole output": one line an event, the events numbered from 1 and running on over lists.
 use Prim.Native.Nat.{ℕ, zero, suc, _+_, _*_, _/_, _%_}
 use mathlib.Core.Path.{_≡_}
 use mathlib.Core.List.{List, [], _++_}
@@ -6,13 +6,13 @@ use lib.ListN.{length}
 use Rattle.rules.specs.Records.{answerSize, answerIn, mostEvents}
 use Rattle.lines.specs.Event.{line, mostLetters}
 
-abbrev pub lastNumber : ℕ  -- a list that comes after fewer events is numbered in 64 bits
+abbrev pub lastNumber : ℕ  -- a list that comes after fewer events than this is numbered in 64 bits
 lastNumber = 18446744073709547520
 
-abbrev pub room : ℕ  -- enough for the lines of a list
+abbrev pub room : ℕ  -- this room is enough for the lines of a list
 room = mostEvents * mostLetters
 
--- the lines of the first k answers, after so many events that were answered before
+-- the lines of the first k answers, numbered on from the events that were answered before
 abbrev pub listingTo : ℕ → List ℕ → ℕ → List ℕ
 listingTo before answers zero = []
 listingTo before answers (suc k) = listingTo before answers k ++ line (before + suc k) (answerIn answers k)

@@ -1,4 +1,4 @@
--- 01, "The program and its whole output": what decide writes by a table file and standard input, in one definition.
+-- This is 01, "The program and its whole output": what decide writes by a table file and standard input, in one definition.
 use Prim.Native.Nat.{ℕ, _+_, _/_, _%_}
 use mathlib.Core.Path.{_≡_}
 use mathlib.Core.Bool.{cond, true}
@@ -15,10 +15,10 @@ use Rattle.decide.specs.Listing.{listing}
 unfoldable pub answersTo : List ℕ → List ℕ → List ℕ  -- the answers to all whole events of the input, one by one
 answersTo t input = flatten (answerRecords records t (eventsIn input))
 
-abbrev pub leftOver : ℕ → List ℕ  -- a last part of n octets, n from 1 to 15
+abbrev pub leftOver : ℕ → List ℕ  -- the line for a last part of n octets, n from 1 to 15; there is none where n is 0
 leftOver n = cond (eqb n 0) [] (short n)
 
--- a table that the check refuses: the only line; else the header, a line an event, the last part
+-- a table that the check refuses gives the only line; else the header, a line an event and the line for the last part are written
 unfoldable pub output : List ℕ → List ℕ → List ℕ
 output t input =
     cond (eqb (checkNumber t) done) (header ++ listing 0 (answersTo t input) ++ leftOver (length input % eventSize)) (badTable (checkNumber t))

@@ -1,4 +1,4 @@
--- 01, "The program and its whole output": its nine events over its table of 64 zero octets give its listing, letter for letter.
+-- This is 01, "The program and its whole output": its nine events over its table of 64 zero octets give its listing, letter for letter.
 use Prim.Native.Nat.{_-_}
 use mathlib.Core.Path.{_≡_, refl}
 use Prim.Native.Nat.{ℕ}

@@ -1,4 +1,4 @@
-// A list of events applied to the table, and the lines of its answers.
+// This module applies a list of events to the table, and writes the lines of its answers.
 use events::ANSWER_SIZE;
 use events::MOST_EVENTS;
 use lines::event::MOST_LETTERS;
@@ -11,17 +11,17 @@ ghost use Rattle.lines.specs.Text.{Written};
 ghost use Rattle.lines.specs.Event.{line, mostLetters};
 ghost use Rattle.decide.specs.Listing.{lastNumber, room, listing};
 
-// Room for the lines of a list of most events, each of most letters: 4,096 times 65.
+// The lines of a list of most events, each of most letters, need this room: 4,096 times 65.
 pub const ROOM: usize = MOST_EVENTS * MOST_LETTERS;
 
-// A text in which the lines of a list have room.
+// Gives a text in which the lines of a list have room.
 pub fn space() -> [u8; ROOM]
     ensures { λ r. ⌜ room ≡ length r ⌝ }
 {
     [0; ROOM]
 }
 
-// The number of events answered after a full list.
+// Gives the number of events that are answered after a full list, where `before` were answered before it.
 pub fn numbered_on(before: u64) -> u64
     requires { ⌜ before < lastNumber ⌝ }
     ensures { λ r. ⌜ r ≡ before + mostEvents ⌝ }
@@ -29,7 +29,7 @@ pub fn numbered_on(before: u64) -> u64
     before + MOST_EVENTS as u64
 }
 
-// The line of an event, written from a place of the text on; the place after it comes back.
+// Writes the line of an event into the text, from octet `at` on, and gives the octet after it.
 fn line_at(text: &mut [u8], at: usize, number: u64, a: [u8; ANSWER_SIZE]) -> usize
     requires { ⌜ at + mostLetters ≤ length (now text) ⌝ }
     ensures text { λ r. ⌜ Written (now (text .entry)) at (line number a) (now (text .exit)) r ⌝ }
@@ -38,7 +38,7 @@ fn line_at(text: &mut [u8], at: usize, number: u64, a: [u8; ANSWER_SIZE]) -> usi
     at + lines::event::line(&mut text[at..], number, a)
 }
 
-// The lines of a list's answers, after so many events that were answered before.
+// Writes the lines of a list's answers, after `before` events that were answered before, and gives their length.
 fn listing(before: u64, answers: &[u8], text: &mut [u8]) -> usize
     requires { ⌜ length (now answers) ≤ answerSize * mostEvents ⌝ }
     requires { ⌜ before < lastNumber ⌝ }
@@ -61,7 +61,7 @@ fn listing(before: u64, answers: &[u8], text: &mut [u8]) -> usize
     at
 }
 
-// The events applied to the table, their answers at their places, and the lines of these.
+// Applies the events to the table, leaves their answers at their places, writes the lines of these, and gives the length of the lines.
 pub fn decided(
     before: u64,
     table: &mut [u8],

@@ -1,4 +1,4 @@
-// The program: the table from circuits.bin, events from standard input, and one line an event under a header.
+// The program reads the table from circuits.bin and events from standard input, and writes one line an event under a header.
 mod listing;
 
 use events::EVENT_SIZE;
@@ -14,7 +14,7 @@ ghost use Rattle.decide.specs.Listing.{lastNumber};
 // A list is taken only where fewer events than this came before it, so that every number fits in 64 bits: 2^64 less 4,096.
 const LAST_NUMBER: u64 = 18446744073709547520;
 
-// Writes the lines of one list, which comes after so many events, to standard output, and says whether they were written.
+// Writes the lines of one list, which comes after `before` events, to standard output, and says whether they were written.
 fn print_list(before: u64, table: &mut [u8], events: &[u8]) -> bool
     requires { ⌜ length (now events) ≤ eventSize * mostEvents ⌝ }
     requires { ⌜ before < lastNumber ⌝ }
@@ -26,7 +26,7 @@ fn print_list(before: u64, table: &mut [u8], events: &[u8]) -> bool
     streams::write(&text[..length])
 }
 
-// One list from standard input; whether another may come.
+// Takes one list from standard input, writes its lines, and tells whether another may come.
 fn turn(before: u64, table: &mut [u8]) -> bool
     requires { ⌜ before < lastNumber ⌝ }
 {
@@ -44,7 +44,7 @@ fn turn(before: u64, table: &mut [u8]) -> bool
     false
 }
 
-// Lists one after another, each of 4,096 events but the last, as far as 64 bits number them: to event 2^64 - 4,096.
+// Takes lists one after another, each of 4,096 events but the last, as far as 64 bits number them: to event 2^64 - 4,096.
 fn lists(table: &mut [u8]) {
     let mut before: u64 = 0;
     while before < LAST_NUMBER {
@@ -55,7 +55,7 @@ fn lists(table: &mut [u8]) {
     }
 }
 
-// The line above those of the events; whether it was written.
+// Writes the line above those of the events, and tells whether it was written.
 fn header() -> bool {
     let mut text = [0u8; LINE];
     let n = lines::event::header(&mut text);

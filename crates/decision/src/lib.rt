@@ -1,4 +1,4 @@
-// What is decided of an event over a table: the first refusal that applies, else what is done, and on which circuit.
+// This crate says what is decided of an event over a table: the first refusal that applies, else what is done, and on which circuit.
 use rules::circuit::Circuit;
 use rules::event::Event;
 use rules::mark::Mark;
@@ -21,7 +21,7 @@ ghost use Rattle.rules.specs.Run.{outcomeOf};
 ghost use Rattle.rules.specs.Records.{circuits, circuitAt, records};
 ghost use Rattle.rules.specs.Ready.{Ready};
 
-// Nobody holds the circuit, or one whom the mark outranks.
+// Tells whether nobody holds the circuit, or one whom the mark outranks.
 fn yields(holder: Part, by: Mark) -> bool
     ensures { λ r. ⌜ r ≡ not (holder .present) || outranks by (holder .mark) ⌝ }
 {
@@ -32,7 +32,7 @@ fn yields(holder: Part, by: Mark) -> bool
     }
 }
 
-// A set-up on its own reservation, which stands on circuit i.
+// Decides a set-up on its own reservation, which stands on circuit i.
 fn on_reservation(e: Event, c: Circuit, i: usize) -> Outcome
     ensures { λ r. ⌜ r ≡ onReservation e c i ⌝ }
 {
@@ -46,7 +46,7 @@ fn on_reservation(e: Event, c: Circuit, i: usize) -> Outcome
     }
 }
 
-// Why a set-up that finds no circuit is refused.
+// Says why a set-up that finds no circuit is refused.
 fn blocked(e: Event) -> Refusal
     ensures { λ r. ⌜ r ≡ blocked e ⌝ }
 {
@@ -57,7 +57,7 @@ fn blocked(e: Event) -> Refusal
     }
 }
 
-// The choice, for a call that stands nowhere: done there, or refused for want of a circuit.
+// Makes the choice for a call that stands nowhere: the act is done on the circuit chosen, or refused for want of one.
 fn chosen(t: &[u8], e: Event, act: Act, want: Refusal) -> Outcome
     ensures { λ r. ⌜ r ≡ rule.chosen (circuitAt (now (t .entry))) (circuits (now (t .entry))) e act want ⌝ }
 {
@@ -67,7 +67,7 @@ fn chosen(t: &[u8], e: Event, act: Act, want: Refusal) -> Outcome
     }
 }
 
-// A set-up by a call that holds nothing.
+// Decides a set-up by a call that holds nothing.
 fn set_up_unheld(t: &[u8], e: Event) -> Outcome
     ensures { λ r. ⌜ r ≡ setUpUnheld (circuitAt (now (t .entry))) (circuits (now (t .entry))) e ⌝ }
 {
@@ -78,7 +78,7 @@ fn set_up_unheld(t: &[u8], e: Event) -> Outcome
     }
 }
 
-// What is decided of a set-up.
+// Decides a set-up.
 fn set_up(t: &[u8], e: Event) -> Outcome
     ensures { λ r. ⌜ r ≡ setUp (circuitAt (now (t .entry))) (circuits (now (t .entry))) e ⌝ }
 {
@@ -89,7 +89,7 @@ fn set_up(t: &[u8], e: Event) -> Outcome
     }
 }
 
-// Whether the call with this reference stands on no circuit.
+// Tells whether the call with this reference stands on no circuit.
 fn stands_nowhere(t: &[u8], reference: Reference) -> bool
     ensures { λ r. ⌜ r ≡ standsNowhere (circuitAt (now (t .entry))) (circuits (now (t .entry))) reference ⌝ }
 {
@@ -102,7 +102,7 @@ fn stands_nowhere(t: &[u8], reference: Reference) -> bool
     }
 }
 
-// What is decided of a look-ahead.
+// Decides a look-ahead.
 fn look_ahead(t: &[u8], e: Event) -> Outcome
     ensures { λ r. ⌜ r ≡ lookAhead (circuitAt (now (t .entry))) (circuits (now (t .entry))) e ⌝ }
 {
@@ -119,7 +119,7 @@ fn look_ahead(t: &[u8], e: Event) -> Outcome
     chosen(t, e, Act::Reserve, Refusal::NoCircuitToReserve)
 }
 
-// What is decided of a release.
+// Decides a release.
 fn release(t: &[u8], e: Event) -> Outcome
     ensures { λ r. ⌜ r ≡ release (circuitAt (now (t .entry))) (circuits (now (t .entry))) e ⌝ }
 {
@@ -130,7 +130,7 @@ fn release(t: &[u8], e: Event) -> Outcome
     }
 }
 
-// What is decided of a cancel.
+// Decides a cancel.
 fn cancel(t: &[u8], e: Event) -> Outcome
     ensures { λ r. ⌜ r ≡ cancel (circuitAt (now (t .entry))) (circuits (now (t .entry))) e ⌝ }
 {
@@ -141,7 +141,7 @@ fn cancel(t: &[u8], e: Event) -> Outcome
     }
 }
 
-// What is decided of a well-formed event over a valid table, by the kind of the event.
+// Decides a well-formed event over a valid table, by the kind of the event.
 fn decision(t: &[u8], e: Event) -> Outcome
     ensures { λ r. ⌜ r ≡ rule.decision (circuitAt (now (t .entry))) (circuits (now (t .entry))) e ⌝ }
 {
@@ -155,7 +155,7 @@ fn decision(t: &[u8], e: Event) -> Outcome
     }
 }
 
-// What is decided of an event over a table; intact says whether the table is valid.
+// Decides an event over a table; `intact` says whether the table is valid.
 pub fn outcome_of(t: &[u8], e: Event, intact: bool) -> Outcome
     requires { ⌜ intact ≡ valid records (now t) ⌝ }
     ensures outcome { λ r. ⌜ r ≡ outcomeOf records (now (t .entry)) e ⌝ }

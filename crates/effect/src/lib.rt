@@ -1,4 +1,4 @@
-// What an outcome makes of a table.
+// This crate makes of a table what an outcome says.
 use rules::event::Event;
 use rules::outcome::Act;
 use rules::outcome::Outcome;
@@ -11,7 +11,7 @@ ghost use Rattle.rules.specs.Run as run;
 ghost use Rattle.rules.specs.Records.{circuits, circuitAt, putCircuit, records};
 ghost use Rattle.rules.specs.Ready.{Ready};
 
-// Circuit i, made anew and written whole.
+// Makes circuit i anew by an act, and writes it whole.
 fn renew(t: &mut [u8], e: Event, a: Act, i: usize)
     requires { ⌜ i < circuits (now t) ⌝ }
     ensures { λ _. ⌜ now (t .exit) ≡ putCircuit (now (t .entry)) i (made e a (circuitAt (now (t .entry)) i)) ⌝ }
@@ -20,7 +20,7 @@ fn renew(t: &mut [u8], e: Event, a: Act, i: usize)
     table::store(t, i, c.made(e, a));
 }
 
-// Carries out an act on circuit i, whose record is in order: a set-up writes the circuit whole, any other act only the part that it changes.
+// Carries out an act on circuit i, whose record is in order: a set-up writes the circuit whole, any other act only the part it changes.
 fn act(t: &mut [u8], e: Event, a: Act, i: usize)
     requires { ⌜ Ready (now t) (Outcome.Do a i) ⌝ }
     ensures { λ _. ⌜ now (t .exit) ≡ putCircuit (now (t .entry)) i (made e a (circuitAt (now (t .entry)) i)) ⌝ }
@@ -34,7 +34,7 @@ fn act(t: &mut [u8], e: Event, a: Act, i: usize)
     }
 }
 
-// The reservation on circuit i, removed if it is overdue.
+// Removes the reservation on circuit i if it is overdue.
 fn relieve(t: &mut [u8], e: Event, i: usize)
     requires { ⌜ i < circuits (now t) ⌝ }
     ensures table { λ _. ⌜ now (t .exit)
@@ -47,7 +47,7 @@ fn relieve(t: &mut [u8], e: Event, i: usize)
     }
 }
 
-// Every reservation that is overdue, removed.
+// Removes every reservation that is overdue.
 fn sweep(t: &mut [u8], e: Event)
     ensures { λ _. ⌜ now (t .exit) ≡ sweepTo records (now (t .entry)) e (circuits (now (t .entry))) ⌝ }
 {
@@ -59,7 +59,7 @@ fn sweep(t: &mut [u8], e: Event)
     }
 }
 
-// A refusal changes nothing, an act its circuit alone, a clock event removes what is overdue.
+// A refusal changes nothing, an act changes its circuit alone, and a clock event removes what is overdue.
 pub fn effect(t: &mut [u8], e: Event, o: Outcome)
     requires { ⌜ Ready (now t) o ⌝ }
     ensures { λ _. ⌜ now (t .exit) ≡ run.effect records (now (t .entry)) e o ⌝ }

@@ -13,16 +13,16 @@ ghost use Rattle.octets.specs.Number.{Octets};
 ghost use Rattle.octets.specs.Span.{span, put};
 ghost use Rattle.rules.specs.Records.{eventSize, eventIn, markIn, referenceIn, eventAt, answerSize, answerOctets, answerIn, answerNumber, answerCause, answerDetail, lostCall, lostReservation, isLost, lostReference};
 
-// How many octets an event has.
+// An event has 16 octets.
 pub const EVENT_SIZE: usize = 16;
 
-// How many octets an answer has.
+// An answer has 16 octets.
 pub const ANSWER_SIZE: usize = 16;
 
-// A list has at most these events.
+// A list has at most 4,096 events.
 pub const MOST_EVENTS: usize = 4096;
 
-// The level and the domain in the parameter of the event that stands from place o on.
+// Reads the level and the domain in the parameter of the event that stands from octet `o` on.
 fn mark(es: &[u8], o: usize) -> Mark
     requires { ⌜ o + eventSize ≤ length (now es) ⌝ }
     ensures { λ r. ⌜ r ≡ markIn (span (now (es .entry)) o eventSize) ⌝ }
@@ -32,7 +32,7 @@ fn mark(es: &[u8], o: usize) -> Mark
     Mark { level, domain }
 }
 
-// The reference of the event that stands from place o on, its spare bits as 0.
+// Reads the reference of the event that stands from octet `o` on, its spare bits as 0.
 fn reference(es: &[u8], o: usize) -> Reference
     requires { ⌜ o + eventSize ≤ length (now es) ⌝ }
     ensures { λ r. ⌜ r ≡ referenceIn (span (now (es .entry)) o eventSize) ⌝ }
@@ -40,7 +40,7 @@ fn reference(es: &[u8], o: usize) -> Reference
     [es[o + 7], es[o + 8], es[o + 9], es[o + 10], es[o + 11] % 64]
 }
 
-// What event k says, of those that stand one after another.
+// Reads what event k says, of those that stand one after another.
 pub fn read(es: &[u8], k: usize) -> Event
     requires { ⌜ eventSize * k + eventSize ≤ length (now es) ⌝ }
     ensures { λ r. ⌜ r ≡ eventAt (eventIn (now (es .entry)) k) ⌝ }
@@ -64,7 +64,7 @@ pub fn read(es: &[u8], k: usize) -> Event
     }
 }
 
-// An answer as its record.
+// Gives the record of an answer.
 fn record(a: Answer) -> [u8; ANSWER_SIZE]
     ensures { λ r. ⌜ r ≡ answerOctets a ⌝ }
 {
@@ -96,7 +96,7 @@ fn record(a: Answer) -> [u8; ANSWER_SIZE]
     ]
 }
 
-// Answer k, written after those before it.
+// Writes answer k, after those before it.
 pub fn write(answers: &mut [u8], k: usize, a: Answer)
     requires { ⌜ answerSize * k + answerSize ≤ length (now answers) ⌝ }
     ensures { λ _. ⌜ now (answers .exit) ≡ put (now (answers .entry)) (answerSize * k) (answerOctets a) ⌝ }
@@ -105,7 +105,7 @@ pub fn write(answers: &mut [u8], k: usize, a: Answer)
     octets::write(answers, ANSWER_SIZE * k, &v);
 }
 
-// Answer k, of those that stand one after another.
+// Gives answer k, of those that stand one after another.
 pub fn answer_at(answers: &[u8], k: usize) -> [u8; ANSWER_SIZE]
     requires { ⌜ answerSize * k + answerSize ≤ length (now answers) ⌝ }
     ensures { λ r. ⌜ r ≡ answerIn (now (answers .entry)) k ⌝ }
@@ -116,31 +116,31 @@ pub fn answer_at(answers: &[u8], k: usize) -> [u8; ANSWER_SIZE]
     a
 }
 
-// The number of an answer.
+// Gives the number of an answer.
 pub fn number(a: [u8; ANSWER_SIZE]) -> u8
     ensures { λ r. ⌜ r ≡ answerNumber a ⌝ }
 {
     a[0]
 }
 
-// The cause in an answer.
+// Gives the cause in an answer.
 pub fn cause(a: [u8; ANSWER_SIZE]) -> u8
     ensures { λ r. ⌜ r ≡ answerCause a ⌝ }
 {
     a[1]
 }
 
-// The detail of an answer.
+// Gives the detail of an answer.
 pub fn detail(a: [u8; ANSWER_SIZE]) -> u16
     ensures { λ r. ⌜ r ≡ answerDetail a ⌝ }
 {
     octets::join_two(a[2], a[3])
 }
 
-// A lost party in an answer: its flag, and its reference.
+// A lost party stands in an answer as its flag and its reference.
 pub type Lost = [u8; 6];
 
-// The holder that an answer names as lost.
+// Gives the holder that an answer names as lost.
 pub fn lost_call(a: [u8; ANSWER_SIZE]) -> Lost
     ensures party { λ r. ⌜ r ≡ lostCall a ⌝ }
     ensures octets { λ r. ⌜ Octets r ⌝ }
@@ -148,7 +148,7 @@ pub fn lost_call(a: [u8; ANSWER_SIZE]) -> Lost
     [a[4], a[5], a[6], a[7], a[8], a[9]]
 }
 
-// The reservation that an answer names as lost.
+// Gives the reservation that an answer names as lost.
 pub fn lost_reservation(a: [u8; ANSWER_SIZE]) -> Lost
     ensures party { λ r. ⌜ r ≡ lostReservation a ⌝ }
     ensures octets { λ r. ⌜ Octets r ⌝ }
@@ -156,7 +156,7 @@ pub fn lost_reservation(a: [u8; ANSWER_SIZE]) -> Lost
     [a[10], a[11], a[12], a[13], a[14], a[15]]
 }
 
-// Tells whether a party named so was lost: its flag is 1.
+// Tells whether a party in an answer was lost: its flag is 1.
 pub fn is_lost(lost: Lost) -> bool
     ensures { λ r. ⌜ r ≡ isLost lost ⌝ }
 {

@@ -1,4 +1,4 @@
--- 01, "Lamp map": the lowest lit lamp, if there is one, is the circuit that a search takes.
+-- This is 01, "Lamp map": the lowest lit lamp, if there is one, is the circuit that a search takes.
 use Prim.Native.Nat.{ℕ, _<_}
 use mathlib.Core.Path.{_≡_}
 use mathlib.Core.Bool.{false}
@@ -11,12 +11,12 @@ use Rattle.rules.specs.Records.{circuitAt, circuits}
 use Rattle.rules.specs.Numbers.{done}
 use Rattle.lamps.specs.Lamps.{lowestIn, lampMap}
 
--- whatever the mark of the call that searches
+-- the lowest lit lamp is the circuit that a search takes, whatever the mark of the call that searches
 abbrev pub LowestTaken : Type 0
 LowestTaken =
     (t : List ℕ) (m : Mark) (i : ℕ) → lampMap t .number ≡ done → lowestIn (lampMap t .words) ≡ At i → choice (circuitAt t) (circuits t) m ≡ At i
 
--- and where no lamp is lit, no circuit is free
+-- where no lamp is lit, no circuit is free
 abbrev pub NoneLit : Type 0
 NoneLit =
     (t : List ℕ) → lampMap t .number ≡ done → lowestIn (lampMap t .words) ≡ Nothing → (i : ℕ) → i < circuits t → free (circuitAt t i) ≡ false

@@ -1,4 +1,4 @@
--- 01, "Lamp map": four words of 64 lamps, lit where free, and the number lit.
+-- This is 01, "Lamp map": four words of 64 lamps, lit where free, and the number lit.
 use Prim.Native.Nat.{ℕ, zero, suc, _+_, _*_, _/_, _%_, _^_}
 use mathlib.Core.Bool.{Bool, cond, _&&_}
 use mathlib.Core.List.{List, [], _∷_}
@@ -16,15 +16,15 @@ use Rattle.lamps.specs.declared.Lamps.{Lamps}
 unfoldable pub lit : (ℕ → Circuit) → ℕ → ℕ → Bool
 lit x n c = ltb c n && free (x c)
 
-abbrev pub litAt : List ℕ → ℕ → Bool  -- lamp c of a table
+abbrev pub litAt : List ℕ → ℕ → Bool  -- lamp c of a table is lit
 litAt t = lit (circuitAt t) (circuits t)
 
--- the word of k lamps from lamp b on: lamp b at bit 0, each next lamp at the next bit
+-- the word of k lamps from lamp b on: lamp b is at bit 0, each next lamp at the next bit
 unfoldable pub wordFrom : (ℕ → Bool) → ℕ → ℕ → ℕ
 wordFrom f b zero = 0
 wordFrom f b (suc k) = cond (f b) 1 0 + 2 * wordFrom f (suc b) k
 
-abbrev pub word : (ℕ → Bool) → ℕ → ℕ  -- lamp 64 × j + i at bit i of word j
+abbrev pub word : (ℕ → Bool) → ℕ → ℕ  -- lamp 64 × j + i is at bit i of word j
 word f j = wordFrom f (64 * j) 64
 
 abbrev pub fourWords : (ℕ → Bool) → List ℕ  -- four words of 64 lamps
@@ -33,7 +33,7 @@ fourWords f = word f 0 ∷ word f 1 ∷ word f 2 ∷ word f 3 ∷ []
 abbrev pub bit : ℕ → ℕ → Bool  -- bit i of a word is 1
 bit w i = eqb (w / 2 ^ i % 2) 1
 
-unfoldable pub lampIn : List ℕ → ℕ → Bool  -- lamp c as four words show it
+unfoldable pub lampIn : List ℕ → ℕ → Bool  -- lamp c is lit, as four words show it
 lampIn ws c = bit (getD ws (c / 64) 0) (c % 64)
 
 unfoldable pub numberIn : List ℕ → ℕ  -- the number lit, of the 256 lamps of four words
@@ -49,7 +49,7 @@ litRoute x n = record { number = done; lit = countTo (λ i. free (x i)) n; words
 abbrev pub litMap : List ℕ → Lamps  -- the lamps of a table's circuits
 litMap t = litRoute (circuitAt t) (circuits t)
 
-abbrev pub darkMap : ℕ → Lamps  -- at 20 and 21 all are zero
+abbrev pub darkMap : ℕ → Lamps  -- at 20 and 21 all words, and the number lit, are zero
 darkMap number = record { number = number; lit = 0; words = replicate 4 0 }
 
 -- the words come back as values with number 0, 20 or 21

@@ -1,4 +1,4 @@
-// The lamp map: four words of 64 lamps, lit where a circuit is free, and the number lit.
+// The lamp map is four words of 64 lamps, lit where a circuit is free, and the number lit.
 use rules::number;
 use rules::search::Found;
 ghost use mathlib.Core.Path.{_≡_};
@@ -14,14 +14,14 @@ pub struct Lamps {
     pub words: [u64; 4],
 }
 
-// The bit of a lamp: 1 where it is lit, else 0.
+// Gives the bit of a lamp: 1 where it is lit, else 0.
 fn digit(on: bool) -> u64
     ensures { λ r. ⌜ (r ≡ cond on 1 0) × (r < 2) ⌝ }
 {
     if on { 1 } else { 0 }
 }
 
-// How many of n circuits have their lamps in the word from `base` on.
+// Says how many of n circuits have their lamps in the word from lamp `base` on.
 fn within(n: usize, base: usize) -> usize
     ensures { λ r. ⌜ r ≡ min (n - base) 64 ⌝ }
 {
@@ -31,7 +31,7 @@ fn within(n: usize, base: usize) -> usize
     if n - base < 64 { n - base } else { 64 }
 }
 
-// Word j, built from its top lamp down: each lamp moves those above it up by one bit.
+// Builds word j from its top lamp down: each lamp moves those above it up by one bit.
 fn word(t: &[u8], j: usize) -> u64
     requires { ⌜ j < 4 ⌝ }
     ensures { λ r. ⌜ r ≡ word (litAt (now (t .entry))) j ⌝ }
@@ -46,7 +46,7 @@ fn word(t: &[u8], j: usize) -> u64
     w
 }
 
-// How many lamps are lit in four words.
+// Counts the lamps that are lit in four words.
 fn number_in(words: [u64; 4]) -> u16
     ensures { λ r. ⌜ r ≡ numberIn words ⌝ }
 {
@@ -59,7 +59,7 @@ fn number_in(words: [u64; 4]) -> u16
     n as u16
 }
 
-// The lowest lit lamp: in the first word that is not 0, the bit above its trailing zeros.
+// Finds the lowest lit lamp: in the first word that is not 0, it is the bit above the trailing zeros.
 pub fn lowest(words: [u64; 4]) -> Found
     ensures lamp { λ r. ⌜ r ≡ lowestIn words ⌝ }
 {
@@ -73,7 +73,7 @@ pub fn lowest(words: [u64; 4]) -> Found
     Found::Nothing
 }
 
-// The lamps of a table.
+// Gives the lamp map of a table's circuits.
 fn lit_map(t: &[u8]) -> Lamps
     requires { ⌜ circuits (now t) ≤ mostCircuits ⌝ }
     ensures { λ r. ⌜ r ≡ litMap (now (t .entry)) ⌝ }
@@ -87,7 +87,7 @@ fn lit_map(t: &[u8]) -> Lamps
     }
 }
 
-// The map where the check refuses the table: its number, and every lamp dark.
+// Gives the map where the check refuses the table: the number is the check's, and every lamp is dark.
 fn dark(number: u8) -> Lamps
     ensures { λ r. ⌜ r ≡ darkMap number ⌝ }
 {
@@ -99,7 +99,7 @@ fn dark(number: u8) -> Lamps
     }
 }
 
-// The map of a valid table; at 20 and 21 all is dark.
+// Gives the map of a valid table; at 20 and 21 every lamp is dark.
 pub fn map(t: &[u8]) -> Lamps
     ensures reading { λ r. ⌜ r ≡ lampMap (now (t .entry)) ⌝ }
 {

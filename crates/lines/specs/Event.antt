@@ -1,4 +1,4 @@
--- 01, "The program and its whole output": the line of an event, and the lines that stand alone.
+-- This is 01, "The program and its whole output": the line of an event, and the lines that stand alone.
 use Prim.Native.Nat.{ℕ}
 use mathlib.Core.Bool.{cond}
 use mathlib.Core.List.{List, _++_}
@@ -12,35 +12,35 @@ use Rattle.lines.specs.Text.{letters, decimal}
 abbrev pub header : List ℕ
 header = letters "event answer cause number call reservation\n"
 
-abbrev pub detail : ℕ → List ℕ  -- number (octets 2-3, `-` for 65535)
+abbrev pub detail : ℕ → List ℕ  -- the field number (octets 2-3 of an answer, `-` for 65535)
 detail n = cond (eqb n noDetail) (letters "-") (decimal n)
 
-abbrev pub named : Reference → List ℕ  -- identity/point code
+abbrev pub named : Reference → List ℕ  -- a call reference as identity/point code
 named v = decimal (v .identity) ++ letters "/" ++ decimal (v .point)
 
 -- a lost party (identity/point code or `-`), by its flag and its reference
 unfoldable pub party : List ℕ → List ℕ
 party lost = cond (isLost lost) (named (valuesOf (lostReference lost))) (letters "-")
 
-abbrev pub field : List ℕ → List ℕ  -- after a space
+abbrev pub field : List ℕ → List ℕ  -- a field stands after a space
 field text = letters " " ++ text
 
-abbrev pub numbers : ℕ → List ℕ → List ℕ  -- event, answer, cause, number
+abbrev pub numbers : ℕ → List ℕ → List ℕ  -- the first four fields of a line: event, answer, cause, number
 numbers n a =
     decimal n ++ field (decimal (answerNumber a)) ++ field (decimal (answerCause a)) ++ field (detail (answerDetail a))
 
--- then lost call and lost reservation, by the event's number and the record of its answer
+-- the line of an event, by its number and the record of its answer: the first four fields, then lost call and lost reservation
 unfoldable pub line : ℕ → List ℕ → List ℕ
 line n a = numbers n a ++ field (party (lostCall a)) ++ field (party (lostReservation a)) ++ letters "\n"
 
-abbrev pub mostLetters : ℕ  -- no line of an event is longer
+abbrev pub mostLetters : ℕ  -- no line of an event is longer than this
 mostLetters = 65
 
-abbrev pub short : ℕ → List ℕ  -- a last part of n octets
+abbrev pub short : ℕ → List ℕ  -- the line for a last part of n octets
 short n = letters "short " ++ decimal n ++ letters "\n"
 
-abbrev pub noTable : List ℕ  -- no table file
+abbrev pub noTable : List ℕ  -- the only line where there is no table file
 noTable = letters "no table\n"
 
-abbrev pub badTable : ℕ → List ℕ  -- a table that the check refuses
+abbrev pub badTable : ℕ → List ℕ  -- the only line where the check refuses the table by number n
 badTable n = letters "bad table " ++ decimal n ++ letters "\n"

@@ -1,4 +1,4 @@
-// The line of an event, and the lines that stand alone.
+// This module writes the line of an event, and the lines that stand alone.
 use crate::text;
 use events::ANSWER_SIZE;
 use events::Lost;
@@ -11,7 +11,7 @@ ghost use Rattle.lines.specs.Text.{letters, decimal, Written};
 ghost use Rattle.lines.specs.Event.{mostLetters};
 ghost use Rattle.lines.specs.Event as rule;
 
-// A number after a space.
+// Writes a number after a space.
 fn field(out: &mut [u8], at: usize, n: u64) -> usize
     requires { ⌜ at ≤ 800 ⌝ }
     ensures text { λ r. ⌜ Written (now (out .entry)) at (rule.field (decimal n)) (now (out .exit)) r ⌝ }
@@ -21,7 +21,7 @@ fn field(out: &mut [u8], at: usize, n: u64) -> usize
     text::number(out, from, n)
 }
 
-// The detail of an answer, after a space.
+// Writes the detail of an answer, after a space.
 fn detail(out: &mut [u8], at: usize, n: u16) -> usize
     requires { ⌜ at ≤ 800 ⌝ }
     ensures text { λ r. ⌜ Written (now (out .entry)) at (rule.field (rule.detail n)) (now (out .exit)) r ⌝ }
@@ -33,7 +33,7 @@ fn detail(out: &mut [u8], at: usize, n: u16) -> usize
     field(out, at, n as u64)
 }
 
-// The call reference of a party that was lost, after a space.
+// Writes the call reference of a party that was lost, after a space.
 fn named(out: &mut [u8], at: usize, v: Reference) -> usize
     requires { ⌜ at ≤ 700 ⌝ }
     ensures text { λ r. ⌜ Written (now (out .entry)) at (rule.field (rule.named v)) (now (out .exit)) r ⌝ }
@@ -44,7 +44,7 @@ fn named(out: &mut [u8], at: usize, v: Reference) -> usize
     text::number(out, stroke, v.point as u64)
 }
 
-// A lost party, after a space: its call reference, or a dash where nobody was lost.
+// Writes a lost party, after a space: its call reference, or a dash where nobody was lost.
 fn party(out: &mut [u8], at: usize, lost: Lost) -> usize
     requires { ⌜ at ≤ 700 ⌝ }
     ensures text { λ r. ⌜ Written (now (out .entry)) at (rule.field (rule.party lost)) (now (out .exit)) r ⌝ }
@@ -57,7 +57,7 @@ fn party(out: &mut [u8], at: usize, lost: Lost) -> usize
     named(out, at, fields::reference::values(octets))
 }
 
-// The first four fields of the line of event n: its number, and the number, the cause and the detail of its answer.
+// Writes the first four fields of the line of event n: its number, and the number, the cause and the detail of its answer.
 fn numbers(out: &mut [u8], n: u64, a: [u8; ANSWER_SIZE]) -> usize
     ensures text { λ r. ⌜ Written (now (out .entry)) 0 (rule.numbers n a) (now (out .exit)) r ⌝ }
     ensures end { λ r. ⌜ r ≤ 34 ⌝ }
@@ -68,10 +68,10 @@ fn numbers(out: &mut [u8], n: u64, a: [u8; ANSWER_SIZE]) -> usize
     detail(out, cause, events::detail(a))
 }
 
-// The most letters that the line of an event has, its end counted.
+// The line of an event has at most 65 letters, its end counted.
 pub const MOST_LETTERS: usize = 65;
 
-// The line of event n, by the record of its answer.
+// Writes the line of event n, by the record of its answer.
 pub fn line(out: &mut [u8], n: u64, a: [u8; ANSWER_SIZE]) -> usize
     ensures text { λ r. ⌜ Written (now (out .entry)) 0 (rule.line n a) (now (out .exit)) r ⌝ }
     ensures end { λ r. ⌜ r ≤ mostLetters ⌝ }
@@ -82,14 +82,14 @@ pub fn line(out: &mut [u8], n: u64, a: [u8; ANSWER_SIZE]) -> usize
     text::put(out, reservation, b"\n")
 }
 
-// The line above those of the events.
+// Writes the line above those of the events.
 pub fn header(out: &mut [u8]) -> usize
     ensures { λ r. ⌜ Written (now (out .entry)) 0 rule.header (now (out .exit)) r ⌝ }
 {
     text::put(out, 0, b"event answer cause number call reservation\n")
 }
 
-// A word, a number and the end of the line.
+// Writes a word, a number and the end of the line.
 fn numbered(out: &mut [u8], word: &[u8], n: u64) -> usize
     requires { ⌜ length (now word) ≤ 20 ⌝ }
     ensures text { λ r. ⌜ Written (now (out .entry)) 0 (now (word .entry) ++ decimal n ++ letters "\n") (now (out .exit)) r ⌝ }
@@ -100,7 +100,7 @@ fn numbered(out: &mut [u8], word: &[u8], n: u64) -> usize
     text::put(out, end, b"\n")
 }
 
-// The line after those of the events, where n octets were left over.
+// Writes the line after those of the events, where n octets were left over.
 pub fn short(out: &mut [u8], n: u64) -> usize
     ensures text { λ r. ⌜ Written (now (out .entry)) 0 (rule.short n) (now (out .exit)) r ⌝ }
     ensures end { λ r. ⌜ r ≤ 41 ⌝ }
@@ -108,14 +108,14 @@ pub fn short(out: &mut [u8], n: u64) -> usize
     numbered(out, b"short ", n)
 }
 
-// The only line that there is where there is no table file.
+// Writes the only line that there is where there is no table file.
 pub fn no_table(out: &mut [u8]) -> usize
     ensures { λ r. ⌜ Written (now (out .entry)) 0 rule.noTable (now (out .exit)) r ⌝ }
 {
     text::put(out, 0, b"no table\n")
 }
 
-// The only line that there is where the check refuses the table by this number.
+// Writes the only line that there is where the check refuses the table by this number.
 pub fn bad_table(out: &mut [u8], number: u8) -> usize
     ensures text { λ r. ⌜ Written (now (out .entry)) 0 (rule.badTable number) (now (out .exit)) r ⌝ }
     ensures end { λ r. ⌜ r ≤ 41 ⌝ }

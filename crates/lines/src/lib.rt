@@ -1,4 +1,4 @@
-// The lines of the programs, written into a buffer. What does not fit is left out, and the length that comes back is the text's.
+// The lines of the programs are written into a buffer. What does not fit is left out, and the length that comes back is the text's.
 pub mod event;
 pub mod panel;
 mod text;

@@ -1,4 +1,4 @@
-// The lamp map as a person at a terminal sees it.
+// This module draws the lamp map as a person at a terminal sees it.
 use crate::text;
 use rules::search::Found;
 ghost use mathlib.Core.Path.{_≡_};
@@ -8,10 +8,10 @@ ghost use lib.Dec.{eqb};
 ghost use Rattle.lines.specs.Text.{Written};
 ghost use Rattle.lines.specs.Panel as rule;
 
-// The most letters that a drawing has.
+// A drawing has at most 313 letters.
 pub const MOST_LETTERS: usize = 313;
 
-// The lamp of a word's lowest bit.
+// Gives the letter for the lamp of a word's lowest bit.
 fn lamp(w: u64) -> u8
     ensures { λ r. ⌜ r ≡ getD (rule.lamp (eqb (w % 2) 1)) 0 0 ⌝ }
 {

@@ -1,11 +1,11 @@
-// Letters and decimal numbers, written from a place on; the place after them comes back. Lines are far shorter than 1,000 octets, so
-// that no place wraps.
+// Letters and decimal numbers are written from octet `at` on, and the octet after them comes back. Lines are far shorter than 1,000
+// octets, so that `at` never wraps.
 ghost use mathlib.Core.Path.{_≡_};
 ghost use Prim.Native.Nat.{_+_, _≤_};
 ghost use lib.ListN.{length, set};
 ghost use Rattle.lines.specs.Text.{decimal, Written};
 
-// One letter, where it has room.
+// Writes one letter, where it has room.
 pub fn letter(out: &mut [u8], at: usize, c: u8)
     ensures { λ _. ⌜ now (out .exit) ≡ set (now (out .entry)) at c ⌝ }
 {
@@ -14,7 +14,7 @@ pub fn letter(out: &mut [u8], at: usize, c: u8)
     }
 }
 
-// Letters one after the other.
+// Writes letters one after the other.
 pub fn put(out: &mut [u8], at: usize, text: &[u8]) -> usize
     requires { ⌜ at + length (now text) ≤ 1000 ⌝ }
     ensures { λ r. ⌜ Written (now (out .entry)) at (now (text .entry)) (now (out .exit)) r ⌝ }
@@ -27,7 +27,7 @@ pub fn put(out: &mut [u8], at: usize, text: &[u8]) -> usize
     at + k
 }
 
-// A number, in as few digits as hold it.
+// Writes a number, in as few digits as hold it.
 pub fn number(out: &mut [u8], at: usize, n: u64) -> usize
     requires { ⌜ at ≤ 900 ⌝ }
     ensures text { λ r. ⌜ Written (now (out .entry)) at (decimal n) (now (out .exit)) r ⌝ }

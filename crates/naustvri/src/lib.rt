@@ -1,4 +1,4 @@
-// What C and Rust link: the entries of the product, each but the version thin over the one that it calls. The header is include/naustvri.h.
+// C and Rust link these entries of the product, each of which but the version only calls another. The header is include/naustvri.h.
 ghost use mathlib.Core.Path.{_≡_};
 ghost use Rattle.rules.specs.Records.{checkNumber};
 ghost use Rattle.fields.specs.Precedence as precedence;
@@ -7,7 +7,7 @@ ghost use Rattle.lamps.specs.Lamps.{lampMap};
 ghost use Rattle.route.specs.Entries.{eventNumber, eventTable, eventAnswer, listNumber, listTable, listAnswers};
 ghost use Rattle.naustvri.specs.Version.{version};
 
-// The version's three parts, as in the header.
+// The version has these three parts, as in the header.
 const MAJOR: u32 = 1;
 
 const MINOR: u32 = 0;

@@ -1,4 +1,4 @@
--- The panel of a table: its lamp map, drawn.
+-- The panel of a table is its lamp map, drawn.
 use Prim.Native.Nat.{ℕ, _+_, _*_, _<_}
 use mathlib.Core.Path.{_≡_}
 use mathlib.Core.Bool.{true}

@@ -1,4 +1,4 @@
-// The lamp map of the table in circuits.bin, and again after the events on standard input.
+// The program draws the lamp map of the table in circuits.bin, and again after the events on standard input.
 use events::EVENT_SIZE;
 use libc::STDIN_FILENO;
 use lines::panel::MOST_LETTERS;
@@ -10,7 +10,7 @@ ghost use Rattle.lines.specs.Text.{Written};
 ghost use Rattle.lines.specs.Panel.{mostLetters};
 ghost use Rattle.panel.specs.Drawn.{panel};
 
-// The panel of a table, as text.
+// Writes the panel of a table into the text, and gives its length.
 fn drawn(table: &[u8], text: &mut [u8]) -> usize
     ensures text { λ r. ⌜ Written (now (text .entry)) 0 (panel (now (table .entry))) (now (text .exit)) r ⌝ }
     ensures within { λ r. ⌜ r ≤ mostLetters ⌝ }
@@ -21,14 +21,14 @@ fn drawn(table: &[u8], text: &mut [u8]) -> usize
     lines::panel::draw(text, words, map.lit, first)
 }
 
-// Writes the panel of a table to standard output; whether it was written.
+// Writes the panel of a table to standard output, and tells whether it was written.
 fn draw(table: &[u8]) -> bool {
     let mut text = [0u8; MOST_LETTERS];
     let n = drawn(table, &mut text);
     streams::write(&text[..n])
 }
 
-// One list from standard input, applied to the table; its answers are not looked at.
+// Applies one list from standard input to the table, looks at none of its answers, and gives what was read.
 fn turn(table: &mut [u8]) -> Taken {
     let mut events = streams::list_room();
     let mut answers = streams::list_room();

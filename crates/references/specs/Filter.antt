@@ -1,4 +1,4 @@
--- A filter of references: two bits of one of 64 words for each.
+-- A filter of references has two bits of one of 64 words for each.
 use Prim.Native.Nat.{ℕ, _+_, _*_, _/_, _%_, _<_, _^_}
 use mathlib.Core.Path.{_≡_}
 use mathlib.Core.Bool.{Bool, true, false}
@@ -16,29 +16,29 @@ use Rattle.rules.specs.Valid.{partNumbered}
 unfoldable pub spread : List ℕ → ℕ
 spread r = (number r 0 4 + 10368889 * getD r 4 0) * 1540483477
 
-abbrev pub wordOf : ℕ → ℕ  -- which of the 64 words is its
+abbrev pub wordOf : ℕ → ℕ  -- which of the 64 words a reference noted by v has
 wordOf v = v / 67108864 % 64
 
-abbrev pub single : ℕ → ℕ  -- bit b of a word
+abbrev pub single : ℕ → ℕ  -- the word in which bit b alone is set
 single b = 1 * 2 ^ b % 18446744073709551616
 
-abbrev pub bitsIn : ℕ → ℕ  -- and which two bits of it
+abbrev pub bitsIn : ℕ → ℕ  -- the two bits of its word that a reference noted by v has
 bitsIn v = bitOr (single (v / 1048576 % 64)) (single (v / 4294967296 % 64))
 
-abbrev pub wordFor : List ℕ → List ℕ → ℕ  -- the word of a reference
+abbrev pub wordFor : List ℕ → List ℕ → ℕ  -- the word of reference r in filter w
 wordFor w r = getD w (wordOf (spread r)) 0
 
--- both bits of a reference are set
+-- both bits of reference r are set in filter w
 abbrev pub already : List ℕ → List ℕ → Bool
 already w r = eqb (bitOr (wordFor w r) (bitsIn (spread r))) (wordFor w r)
 
--- bits that were set stay set, and if a part is present, those of its reference r are
+-- bits that were set stay set, and if a part is present, those of its reference r are set
 pub record Grown (w v r : List ℕ) (present : Bool) : Type 0 where
   pub long : length v ≡ length w
   pub kept : (s : List ℕ) → already w s ≡ true → already v s ≡ true
   pub here : present ≡ true → already v r ≡ true
 
--- each part before j that is present has both its bits set
+-- each part before part j that is present has both bits of its reference set
 pub record Seen (x : ℕ → Circuit) (w : List ℕ) (j : ℕ) : Type 0 where
   pub full : length w ≡ 64
   pub set : (k : ℕ) → k < j → partNumbered x k .present ≡ true → already w (partNumbered x k .reference) ≡ true

@@ -1,4 +1,4 @@
-// Whether a call reference stands in two parts. A filter of bits says at once of most references that they are new;
+// This crate tells whether a call reference stands in two parts. A filter of bits says at once of most references that they are new;
 // only where both bits of one are set already are the earlier parts searched.
 use rules::part::Part;
 use rules::part::Reference;
@@ -20,7 +20,7 @@ fn wide(x: u8) -> u64
     x as u64
 }
 
-// A number in which each octet of a reference tells on many bits, so that those of like references differ.
+// Gives a number in which each octet of a reference tells on many bits, so that the numbers of like references differ.
 fn spread(r: Reference) -> u64
     ensures { λ v. ⌜ v ≡ filter.spread r ⌝ }
 {
@@ -28,7 +28,7 @@ fn spread(r: Reference) -> u64
     (low + 10368889 * wide(r[4])) * 1540483477
 }
 
-// The two bits of its word that stand for a reference, by its spread number.
+// Gives the two bits that stand for a reference in its word, by its spread number.
 fn bits(v: u64) -> u64
     ensures { λ r. ⌜ r ≡ bitsIn v ⌝ }
 {
@@ -49,7 +49,7 @@ fn set_bits(w: &mut [u64; 64], r: Reference) -> bool
     new == old
 }
 
-// Notes a part that is present, and says whether its reference may stand in an earlier one.
+// Notes a part that is present, and says whether its reference may stand in an earlier part.
 fn may_repeat(w: &mut [u64; 64], p: Part) -> bool
     requires { ⌜ length (now w) ≡ 64 ⌝ }
     ensures lit { λ b. ⌜ b ≡ p .present && already (now (w .entry)) (p .reference) ⌝ }
@@ -59,7 +59,7 @@ fn may_repeat(w: &mut [u64; 64], p: Part) -> bool
     if p.present { set_bits(w, r) } else { false }
 }
 
-// The call with this reference stands on circuit i.
+// Tells whether the call with this reference stands on circuit i.
 fn stands_on(t: &[u8], i: usize, r: Reference) -> bool
     requires { ⌜ i < circuits (now t) ⌝ }
     ensures { λ b. ⌜ b ≡ isOf r (partNumbered (circuitAt (now (t .entry))) (2 * i)) || isOf r (partNumbered (circuitAt (now (t .entry))) (2 * i + 1)) ⌝ }
@@ -72,7 +72,7 @@ fn stands_on(t: &[u8], i: usize, r: Reference) -> bool
     reservation.is_of(r)
 }
 
-// The call with this reference stands on a circuit below i.
+// Tells whether the call with this reference stands on a circuit below i.
 fn stands_below(t: &[u8], i: usize, r: Reference) -> bool
     requires { ⌜ i ≤ circuits (now t) ⌝ }
     ensures { λ b. ⌜ b ≡ standsTo (circuitAt (now (t .entry))) r (2 * i) ⌝ }
@@ -87,7 +87,7 @@ fn stands_below(t: &[u8], i: usize, r: Reference) -> bool
     false
 }
 
-// Whether the holder's reference of circuit i stands in an earlier part; it is noted.
+// Notes the holder's reference of circuit i, if there is one, and tells whether it stands in an earlier part.
 fn note_holder(t: &[u8], w: &mut [u64; 64], i: usize) -> bool
     requires { ⌜ i < circuits (now t) ⌝ }
     requires { ⌜ Seen (circuitAt (now t)) (now w) (2 * i) ⌝ }
@@ -102,7 +102,7 @@ fn note_holder(t: &[u8], w: &mut [u64; 64], i: usize) -> bool
     stands_below(t, i, r)
 }
 
-// Whether the reservation's reference of circuit i stands in an earlier part, its holder's included; it is noted.
+// Notes the reservation's reference of circuit i, if there is one, and tells whether it stands in an earlier part, its holder's included.
 fn note_reservation(t: &[u8], w: &mut [u64; 64], i: usize) -> bool
     requires { ⌜ i < circuits (now t) ⌝ }
     requires { ⌜ Seen (circuitAt (now t)) (now w) (2 * i + 1) ⌝ }
@@ -121,7 +121,7 @@ fn note_reservation(t: &[u8], w: &mut [u64; 64], i: usize) -> bool
     stands_below(t, i, r)
 }
 
-// The first part whose reference stands in an earlier one.
+// Finds the first part whose reference stands in an earlier part.
 pub fn first_repeated(t: &[u8]) -> Found
     ensures { λ r. ⌜ r ≡ firstTo (repeated (circuitAt (now (t .entry)))) (2 * circuits (now (t .entry))) ⌝ }
 {

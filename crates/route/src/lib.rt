@@ -1,4 +1,4 @@
-// One event applied to a table, and a list of events: what is decided, what is answered, what becomes of the table.
+// This crate applies one event, or a list of events, to a table: it decides, answers, and changes the table.
 use events::ANSWER_SIZE;
 use events::EVENT_SIZE;
 use events::MOST_EVENTS;
@@ -15,7 +15,7 @@ ghost use Rattle.rules.specs.Run.{after, answered, answerRecord, run, answerRec
 ghost use Rattle.rules.specs.Records.{circuits, mostCircuits, tableLength, eventSize, eventIn, answerSize, listLength, records};
 ghost use Rattle.route.specs.Entries.{eventNumber, eventTable, eventAnswer, eventsTo, listNumber, listTable, listAnswers};
 
-// Event k applied to a table, and its answer written as answer k; intact says whether the table is valid. The answer names the losers,
+// Applies event k to a table, and writes its answer as answer k; `intact` says whether the table is valid. The answer names the losers,
 // so it is made of the table as it was; each step reads the circuit that it needs anew, since the compiler then keeps none in memory.
 fn apply(t: &mut [u8], es: &[u8], answers: &mut [u8], k: usize, intact: bool) -> u8
     requires { ⌜ circuits (now t) ≤ mostCircuits ⌝ }
@@ -35,7 +35,7 @@ fn apply(t: &mut [u8], es: &[u8], answers: &mut [u8], k: usize, intact: bool) ->
     answer.number
 }
 
-// The lengths of a table, an event and its answer are right.
+// Tells whether the lengths of a table, an event and its answer are right.
 fn event_lengths(t: usize, e: usize, a: usize) -> bool
     ensures { λ r. ⌜ r ≡ tableLength t && (eqb e eventSize && eqb a answerSize) ⌝ }
 {
@@ -48,7 +48,7 @@ fn event_lengths(t: usize, e: usize, a: usize) -> bool
     a == ANSWER_SIZE
 }
 
-// One event: its number is given back and stands in the answer; at 20 nothing is written.
+// Applies one event: its number is given back and stands in the answer; at 20 nothing is written.
 pub fn event(t: &mut [u8], e: &[u8], a: &mut [u8]) -> u8
     ensures number { λ r. ⌜ r ≡ eventNumber (now (t .entry)) (now (e .entry)) (now (a .entry)) ⌝ }
     ensures table { λ _. ⌜ now (t .exit) ≡ eventTable (now (t .entry)) (now (e .entry)) (now (a .entry)) ⌝ }
@@ -61,7 +61,7 @@ pub fn event(t: &mut [u8], e: &[u8], a: &mut [u8]) -> u8
     apply(t, e, a, 0, intact)
 }
 
-// The lengths of a table, its events and their answer places are right.
+// Tells whether the lengths of a table, its events and their answer places are right.
 fn list_lengths(t: usize, es: usize, places: usize) -> bool
     ensures { λ r. ⌜ r ≡ tableLength t && listLength es places ⌝ }
 {
@@ -95,7 +95,7 @@ fn each(t: &mut [u8], es: &[u8], places: &mut [u8], n: usize, intact: bool)
     }
 }
 
-// A list of events: 0, or 20 with nothing written.
+// Applies a list of events and gives 0, or writes nothing and gives 20.
 pub fn list(t: &mut [u8], es: &[u8], places: &mut [u8]) -> u8
     ensures number { λ r. ⌜ r ≡ listNumber (now (t .entry)) (now (es .entry)) (now (places .entry)) ⌝ }
     ensures table { λ _. ⌜ now (t .exit) ≡ listTable (now (t .entry)) (now (es .entry)) (now (places .entry)) ⌝ }

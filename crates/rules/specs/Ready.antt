@@ -1,4 +1,4 @@
--- What an outcome may count on: the circuit that it acts on is there, and its record has flags of 0 or 1 and zeros where they must be.
+-- An outcome may count on this: the circuit that it acts on is there, and its record has flags of 0 or 1 and zeros where they must be.
 use Prim.Native.Nat.{ℕ, _<_}
 use mathlib.Core.Path.{_≡_}
 use mathlib.Core.Bool.{true}

@@ -1,4 +1,4 @@
-// The numbers given back: first what is accepted, then the refusals in the order in which they are tried.
+// These are the numbers given back: first those of what is accepted, then the refusals in the order in which they are tried.
 
 // The list was carried out, the table is valid, or the field was read or written.
 pub const DONE: u8 = 0;

@@ -1,4 +1,4 @@
--- A table as it is read from its file.
+-- This is a table as it is read from its file.
 use Prim.Native.Nat.{ℕ, _≤_}
 use mathlib.Core.Path.{_≡_}
 use mathlib.Core.Logic.{_⊎_}

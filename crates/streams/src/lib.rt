@@ -1,4 +1,4 @@
-// Where the programs' octets come from and go to: the table file, standard input, standard output.
+// The programs' octets come from the table file and standard input, and go to standard output.
 use events::EVENT_SIZE;
 use events::MOST_EVENTS;
 use rules::number::DONE;
@@ -8,13 +8,13 @@ ghost use Prim.Native.Nat.{_≤_};
 ghost use lib.ListN.{length};
 ghost use Rattle.streams.specs.Table.{Checked};
 
-// Room for the table file: one octet more than the largest table has, so that a longer file is seen to be too long.
+// This room for the table file is one octet more than the largest table has, so that a longer file is seen to be too long.
 pub const TABLE_ROOM: usize = CIRCUIT_SIZE * MOST_CIRCUITS + 1;
 
-// How many octets a full list has.
+// A full list of events has so many octets.
 pub const FULL_LIST: usize = EVENT_SIZE * MOST_EVENTS;
 
-// Room for a line that stands alone.
+// A line that stands alone has this room.
 pub const LINE: usize = 64;
 
 // Gives room for a full list of events, or for their answers.
@@ -22,7 +22,7 @@ pub fn list_room() -> [u8; FULL_LIST] {
     [0; FULL_LIST]
 }
 
-// The octets that were read, and whether a read failed.
+// This says how many octets were read, and whether a read failed.
 pub struct Taken {
     pub octets: usize,
     pub failed: bool,
@@ -65,7 +65,7 @@ pub fn write(text: &[u8]) -> bool {
     done
 }
 
-// The octets of the table file; failed where it cannot be opened or read.
+// Reads the octets of the table file, and says that it failed where the file cannot be opened or read.
 fn file(buffer: &mut [u8]) -> Taken
     ensures { λ r. ⌜ r .octets ≤ length (now (buffer .exit)) ⌝ }
 {
@@ -95,7 +95,7 @@ fn bad_table(number: u8) {
     write(&text[..n]);
 }
 
-// The table from its file, and its length. Where there is none, or the check refuses it, the only line says so, and the length is 0.
+// Reads the table from its file and gives its length. Where there is none, or the check refuses it, the only line says so and 0 is given.
 pub fn table(buffer: &mut [u8]) -> usize
     ensures { λ r. ⌜ Checked (now (buffer .exit)) r ⌝ }
 {
@@ -113,7 +113,7 @@ pub fn table(buffer: &mut [u8]) -> usize
     n
 }
 
-// What is said after the last whole event: a line where octets were left over; where a read failed, why, on standard error.
+// Says what comes after the last whole event: a line where octets were left over, or on standard error why a read failed.
 pub fn ended(taken: Taken) {
     let n = taken.octets % EVENT_SIZE;
     let mut text = [0u8; LINE];

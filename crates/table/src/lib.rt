@@ -14,23 +14,23 @@ ghost use Rattle.octets.specs.Span.{put, zeros};
 ghost use Rattle.rules.specs.Valid.{partNumbered};
 ghost use Rattle.rules.specs.Records.{circuitSize, circuits, partAt, circuitAt, holderOctets, reservationOctets, spareOctets, partOctets, putCircuit, flagsAt, blankAt, tableLength};
 
-// How many octets a circuit has.
+// A circuit has 32 octets.
 pub const CIRCUIT_SIZE: usize = 32;
 
-// A table has at least one circuit, and at most these.
+// A table has at least one circuit, and at most 256.
 pub const MOST_CIRCUITS: usize = 256;
 
-// How many octets a part has, a reservation's clock aside.
+// A part has 12 octets, a reservation's clock aside.
 const PART_SIZE: usize = 12;
 
-// Where the reservation's part stands in a circuit, then its clock, then the octets that belong to no part.
+// These say from which octet of a circuit on the reservation's part stands, then its clock, then the octets that belong to no part.
 const RESERVATION: usize = 12;
 
 const CLOCK: usize = 24;
 
 const SPARE: usize = 28;
 
-// A table of n octets is 1 to 256 whole circuits.
+// Tells whether a table of n octets is 1 to 256 whole circuits.
 pub fn right_length(n: usize) -> bool
     ensures { λ r. ⌜ r ≡ tableLength n ⌝ }
 {
@@ -44,14 +44,14 @@ pub fn right_length(n: usize) -> bool
     circuits <= MOST_CIRCUITS
 }
 
-// How many circuits there are.
+// Counts the circuits of a table.
 pub fn count(t: &[u8]) -> usize
     ensures { λ r. ⌜ r ≡ circuits (now (t .entry)) ⌝ }
 {
     t.len() / CIRCUIT_SIZE
 }
 
-// The part that stands from place o on.
+// Reads the part that stands from octet `o` on.
 fn part_at(t: &[u8], o: usize) -> Part
     requires { ⌜ o + 12 ≤ length (now t) ⌝ }
     ensures { λ r. ⌜ r ≡ partAt (now (t .entry)) o ⌝ }
@@ -68,7 +68,7 @@ fn part_at(t: &[u8], o: usize) -> Part
     }
 }
 
-// Part k: 2 i is the holder's of circuit i, and 2 i + 1 its reservation's.
+// Reads part k: 2 i is the holder's of circuit i, and 2 i + 1 its reservation's.
 pub fn part_numbered(t: &[u8], k: usize) -> Part
     requires { ⌜ k < 2 * circuits (now t) ⌝ }
     ensures { λ r. ⌜ r ≡ partNumbered (circuitAt (now (t .entry))) k ⌝ }
@@ -76,7 +76,7 @@ pub fn part_numbered(t: &[u8], k: usize) -> Part
     part_at(t, CIRCUIT_SIZE * (k / 2) + RESERVATION * (k % 2))
 }
 
-// The holder's part of circuit i.
+// Reads the holder's part of circuit i.
 pub fn holder_at(t: &[u8], i: usize) -> Part
     requires { ⌜ i < circuits (now t) ⌝ }
     ensures { λ r. ⌜ r ≡ circuitAt (now (t .entry)) i .holder ⌝ }
@@ -84,7 +84,7 @@ pub fn holder_at(t: &[u8], i: usize) -> Part
     part_at(t, CIRCUIT_SIZE * i)
 }
 
-// The reservation's part of circuit i, its clock aside.
+// Reads the reservation's part of circuit i, its clock aside.
 pub fn reservation_at(t: &[u8], i: usize) -> Part
     requires { ⌜ i < circuits (now t) ⌝ }
     ensures { λ r. ⌜ r ≡ circuitAt (now (t .entry)) i .reservation ⌝ }
@@ -92,7 +92,7 @@ pub fn reservation_at(t: &[u8], i: usize) -> Part
     part_at(t, CIRCUIT_SIZE * i + RESERVATION)
 }
 
-// What stands at circuit i.
+// Reads what stands at circuit i.
 pub fn circuit_at(t: &[u8], i: usize) -> Circuit
     requires { ⌜ i < circuits (now t) ⌝ }
     ensures { λ r. ⌜ r ≡ circuitAt (now (t .entry)) i ⌝ }
@@ -107,7 +107,7 @@ pub fn circuit_at(t: &[u8], i: usize) -> Circuit
     }
 }
 
-// A part as its octets.
+// Gives the octets of a part.
 fn part_octets(p: Part) -> [u8; PART_SIZE]
     ensures { λ r. ⌜ r ≡ partOctets p ⌝ }
 {
@@ -130,7 +130,7 @@ fn part_octets(p: Part) -> [u8; PART_SIZE]
     ]
 }
 
-// The holder's part of circuit i, written.
+// Writes the holder's part of circuit i.
 pub fn store_holder(t: &mut [u8], i: usize, p: Part)
     requires { ⌜ i < circuits (now t) ⌝ }
     ensures { λ _. ⌜ now (t .exit) ≡ put (now (t .entry)) (circuitSize * i) (partOctets p) ⌝ }
@@ -139,7 +139,7 @@ pub fn store_holder(t: &mut [u8], i: usize, p: Part)
     octets::write(t, CIRCUIT_SIZE * i, &v);
 }
 
-// The reservation's part of circuit i, written with its clock.
+// Writes the reservation's part of circuit i, with its clock.
 pub fn store_reservation(t: &mut [u8], i: usize, p: Part, clock: u32)
     requires { ⌜ i < circuits (now t) ⌝ }
     ensures { λ _. ⌜ now (t .exit) ≡ put (now (t .entry)) (circuitSize * i + 12) (partOctets p ++ octets 4 clock) ⌝ }
@@ -151,7 +151,7 @@ pub fn store_reservation(t: &mut [u8], i: usize, p: Part, clock: u32)
     octets::write(t, o + PART_SIZE, &s);
 }
 
-// Circuit i, written whole.
+// Writes circuit i whole.
 pub fn store(t: &mut [u8], i: usize, c: Circuit)
     requires { ⌜ i < circuits (now t) ⌝ }
     ensures { λ _. ⌜ now (t .exit) ≡ putCircuit (now (t .entry)) i c ⌝ }
@@ -162,7 +162,7 @@ pub fn store(t: &mut [u8], i: usize, c: Circuit)
     octets::write(t, CIRCUIT_SIZE * i + SPARE, &z);
 }
 
-// Each flag of record i is 0 or 1.
+// Tells whether each flag of record i is 0 or 1.
 pub fn flags(t: &[u8], i: usize) -> bool
     requires { ⌜ i < circuits (now t) ⌝ }
     ensures { λ r. ⌜ r ≡ flagsAt (now (t .entry)) i ⌝ }
@@ -175,7 +175,7 @@ pub fn flags(t: &[u8], i: usize) -> bool
     }
 }
 
-// Every octet of the holder's part of record i is zero.
+// Tells whether every octet of the holder's part of record i is zero.
 pub fn holder_zero(t: &[u8], i: usize) -> bool
     requires { ⌜ i < circuits (now t) ⌝ }
     ensures { λ r. ⌜ r ≡ zeros (holderOctets (now (t .entry)) i) ⌝ }
@@ -183,7 +183,7 @@ pub fn holder_zero(t: &[u8], i: usize) -> bool
     octets::zero_twelve(t, CIRCUIT_SIZE * i)
 }
 
-// Every octet of the reservation's part of record i, its clock's too, is zero.
+// Tells whether every octet of the reservation's part of record i, its clock's too, is zero.
 pub fn reservation_zero(t: &[u8], i: usize) -> bool
     requires { ⌜ i < circuits (now t) ⌝ }
     ensures { λ r. ⌜ r ≡ zeros (reservationOctets (now (t .entry)) i) ⌝ }
@@ -191,7 +191,7 @@ pub fn reservation_zero(t: &[u8], i: usize) -> bool
     octets::zero_sixteen(t, CIRCUIT_SIZE * i + RESERVATION)
 }
 
-// Every octet of record i that belongs to no part is zero.
+// Tells whether every octet of record i that belongs to no part is zero.
 pub fn spare_zero(t: &[u8], i: usize) -> bool
     requires { ⌜ i < circuits (now t) ⌝ }
     ensures { λ r. ⌜ r ≡ zeros (spareOctets (now (t .entry)) i) ⌝ }
@@ -199,14 +199,14 @@ pub fn spare_zero(t: &[u8], i: usize) -> bool
     octets::zero_four(t, CIRCUIT_SIZE * i + SPARE)
 }
 
-// A part is present, or its octets are zero.
+// Tells whether a part is present, or its octets are zero.
 fn present_or(p: Part, zero: bool) -> bool
     ensures { λ r. ⌜ r ≡ cond (p .present) true zero ⌝ }
 {
     if p.present { true } else { zero }
 }
 
-// What must be zero in record i is zero.
+// Tells whether what must be zero in record i is zero.
 pub fn blank(t: &[u8], i: usize) -> bool
     requires { ⌜ i < circuits (now t) ⌝ }
     ensures { λ r. ⌜ r ≡ blankAt (now (t .entry)) i ⌝ }

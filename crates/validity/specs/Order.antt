@@ -1,4 +1,4 @@
--- A record in order, part by part: the same tests as a verdict's, in the order in which they are quick.
+-- A record is in order, part by part, by the same tests as a verdict's, in the order in which they are quick.
 use Prim.Native.Nat.{ℕ}
 use mathlib.Core.Bool.{Bool, cond, _&&_, not}
 use mathlib.Core.List.{List}
@@ -8,13 +8,13 @@ use Rattle.rules.specs.Fields.{levelOk, decimal, pointCodeOk}
 use Rattle.rules.specs.Valid.{pairOk}
 use Rattle.rules.specs.Records.{circuitAt, holderOctets, reservationOctets, spareOctets}
 
-abbrev pub fit : Part → Bool  -- what is asked of a part that is present, by itself
+abbrev pub fit : Part → Bool  -- a part that is present is fit by itself: its level, its digits and its spare bits are right
 fit p = levelOk (p .mark .level .0) && (decimal (p .mark .domain) && pointCodeOk (p .reference))
 
 abbrev pub partInOrder : Part → List ℕ → Bool  -- a part is present and fit, or its octets are zero
 partInOrder p octets = cond (p .present) (fit p) (zeros octets)
 
-unfoldable pub inOrder : List ℕ → ℕ → Bool  -- record i: both parts, the octets of neither, the one part above the other
+unfoldable pub inOrder : List ℕ → ℕ → Bool  -- in record i both parts are in order, other octets zero, and a reservation outranks its holder
 inOrder t i =
     partInOrder (circuitAt t i .holder) (holderOctets t i)
     && (partInOrder (circuitAt t i .reservation) (reservationOctets t i)

@@ -1,4 +1,4 @@
-// The check of a table: its first fault, and the number of it. Each record is first looked at part by part, which is quick;
+// The check of a table finds its first fault, and gives a number. Each record is first looked at part by part, which is quick;
 // the reasons are gone through, in their order, only where that finds something.
 use rules::circuit::Circuit;
 use rules::number;
@@ -19,7 +19,7 @@ ghost use Rattle.rules.specs.Records.{circuitAt, circuits, flagsAt, records, ch
 ghost use Rattle.validity.specs.Order.{partInOrder, inOrder, outOfOrder};
 ghost use Rattle.validity.specs.Order as order;
 
-// A part is absent, or its level is one of the five.
+// Tells whether a part is absent, or its level is one of the five.
 fn level_ok(p: Part) -> bool
     ensures { λ r. ⌜ r ≡ ifPresent p (levelOk (p .mark .level .0)) ⌝ }
 {
@@ -30,7 +30,7 @@ fn level_ok(p: Part) -> bool
     }
 }
 
-// The level of each part that is present is one of the five.
+// Tells whether the level of each part that is present is one of the five.
 fn levels_ok(c: Circuit) -> bool
     ensures { λ r. ⌜ r ≡ levelsOk c ⌝ }
 {
@@ -41,14 +41,14 @@ fn levels_ok(c: Circuit) -> bool
     }
 }
 
-// The two top bits of a reference's last octet are spare.
+// Tells whether the two top bits of a reference's last octet, which are spare, are 0.
 fn point_code_ok(reference: Reference) -> bool
     ensures { λ r. ⌜ r ≡ pointCodeOk reference ⌝ }
 {
     reference[4] < 64
 }
 
-// A part is absent, or its digits and the spare bits of its reference are right.
+// Tells whether a part is absent, or its digits and the spare bits of its reference are right.
 fn part_ok(p: Part) -> bool
     ensures { λ r. ⌜ r ≡ ifPresent p (decimal (p .mark .domain) && pointCodeOk (p .reference)) ⌝ }
 {
@@ -63,7 +63,7 @@ fn part_ok(p: Part) -> bool
     point_code_ok(reference)
 }
 
-// The digits and the spare bits of each part that is present are right.
+// Tells whether the digits and the spare bits of each part that is present are right.
 fn fields_ok(c: Circuit) -> bool
     ensures { λ r. ⌜ r ≡ fieldsOk pointCodeOk c ⌝ }
 {
@@ -74,7 +74,7 @@ fn fields_ok(c: Circuit) -> bool
     }
 }
 
-// A reservation outranks the holder that it stands above.
+// Tells whether a reservation outranks the holder that it stands above, if there is one.
 fn pair_ok(c: Circuit) -> bool
     ensures { λ r. ⌜ r ≡ pairOk c ⌝ }
 {
@@ -87,7 +87,7 @@ fn pair_ok(c: Circuit) -> bool
     c.reservation.mark.outranks(c.holder.mark)
 }
 
-// The flags of record i are 0 or 1, and the levels of c are known.
+// Tells whether the flags of record i are 0 or 1, and the levels of c are known.
 fn flags_and_levels(t: &[u8], i: usize, c: Circuit) -> bool
     requires { ⌜ i < circuits (now t) ⌝ }
     ensures { λ r. ⌜ r ≡ flagsAt (now (t .entry)) i && levelsOk c ⌝ }
@@ -99,7 +99,7 @@ fn flags_and_levels(t: &[u8], i: usize, c: Circuit) -> bool
     }
 }
 
-// Record i by itself: the first reason that applies.
+// Gives the verdict on record i by itself: a fault by the first reason that applies.
 fn record(t: &[u8], i: usize) -> Verdict
     requires { ⌜ i < circuits (now t) ⌝ }
     ensures { λ r. ⌜ r ≡ recordVerdict records (now (t .entry)) i ⌝ }
@@ -120,7 +120,7 @@ fn record(t: &[u8], i: usize) -> Verdict
     Verdict::Valid
 }
 
-// What is asked of a part that is present, by itself.
+// Tells whether a part that is present is fit by itself: its level, its digits and its spare bits are right.
 fn fit(p: Part) -> bool
     ensures { λ r. ⌜ r ≡ order.fit p ⌝ }
 {
@@ -135,7 +135,7 @@ fn fit(p: Part) -> bool
     point_code_ok(reference)
 }
 
-// The holder's part of record i is present and fit, or zero.
+// Tells whether the holder's part of record i is present and fit, or zero.
 fn holder_in_order(t: &[u8], i: usize) -> bool
     requires { ⌜ i < circuits (now t) ⌝ }
     ensures { λ r. ⌜ r ≡ partInOrder (circuitAt (now (t .entry)) i .holder) (holderOctets (now (t .entry)) i) ⌝ }
@@ -148,7 +148,7 @@ fn holder_in_order(t: &[u8], i: usize) -> bool
     }
 }
 
-// The reservation's part of record i is present and fit, or zero.
+// Tells whether the reservation's part of record i is present and fit, or zero.
 fn reservation_in_order(t: &[u8], i: usize) -> bool
     requires { ⌜ i < circuits (now t) ⌝ }
     ensures { λ r. ⌜ r ≡ partInOrder (circuitAt (now (t .entry)) i .reservation) (reservationOctets (now (t .entry)) i) ⌝ }
@@ -161,7 +161,7 @@ fn reservation_in_order(t: &[u8], i: usize) -> bool
     }
 }
 
-// Record i is in order: no reason applies to it.
+// Tells whether record i is in order: no reason applies to it.
 fn in_order(t: &[u8], i: usize) -> bool
     requires { ⌜ i < circuits (now t) ⌝ }
     ensures { λ r. ⌜ r ≡ inOrder (now (t .entry)) i ⌝ }
@@ -178,7 +178,7 @@ fn in_order(t: &[u8], i: usize) -> bool
     pair_ok(table::circuit_at(t, i))
 }
 
-// A verdict is no fault.
+// Tells whether a verdict is no fault.
 fn is_valid(v: Verdict) -> bool
     ensures { λ r. ⌜ r ≡ isValid v ⌝ }
 {
@@ -188,7 +188,7 @@ fn is_valid(v: Verdict) -> bool
     }
 }
 
-// The lowest record that is not in order.
+// Finds the lowest record that is not in order.
 fn first_out_of_order(t: &[u8]) -> Found
     ensures { λ r. ⌜ r ≡ firstTo (outOfOrder (now (t .entry))) (circuits (now (t .entry))) ⌝ }
 {
@@ -203,7 +203,7 @@ fn first_out_of_order(t: &[u8]) -> Found
     Found::Nothing
 }
 
-// The verdict on the records, each by itself: that on the lowest that is not in order.
+// Gives the verdict on the records, each by itself: it is that on the lowest that is not in order.
 fn each_record(t: &[u8]) -> Verdict
     ensures { λ r. ⌜ r ≡ recordsTo records (now (t .entry)) (circuits (now (t .entry))) ⌝ }
 {
@@ -213,7 +213,7 @@ fn each_record(t: &[u8]) -> Verdict
     }
 }
 
-// The verdict on the references: the first that stands in an earlier part is a fault.
+// Gives the verdict on the references: the first that stands in an earlier part is a fault.
 fn each_reference(t: &[u8]) -> Verdict
     ensures { λ r. ⌜ r ≡ partsTo records (now (t .entry)) (circuits (now (t .entry))) ⌝ }
 {
@@ -223,7 +223,7 @@ fn each_reference(t: &[u8]) -> Verdict
     }
 }
 
-// The first fault of the table, by its reason and its record.
+// Finds the first fault of the table, by its reason and its record.
 pub fn verdict(t: &[u8]) -> Verdict
     ensures { λ r. ⌜ r ≡ rule.verdict records (now (t .entry)) ⌝ }
 {
@@ -231,14 +231,14 @@ pub fn verdict(t: &[u8]) -> Verdict
     if is_valid(v) { each_reference(t) } else { v }
 }
 
-// Whether the table has no fault.
+// Tells whether the table has no fault.
 pub fn valid(t: &[u8]) -> bool
     ensures { λ r. ⌜ r ≡ rule.valid records (now (t .entry)) ⌝ }
 {
     is_valid(verdict(t))
 }
 
-// The number that the check gives back for a verdict.
+// Gives the number that the check returns for a verdict.
 fn number(v: Verdict) -> u8
     ensures { λ r. ⌜ r ≡ verdictNumber v ⌝ }
 {
@@ -248,7 +248,7 @@ fn number(v: Verdict) -> u8
     }
 }
 
-// 0 for a valid table, 20 for a wrong length, 21 for a table that is not valid.
+// Gives 0 for a valid table, 20 for a wrong length, 21 for a table that is not valid.
 pub fn check(t: &[u8]) -> u8
     ensures number { λ r. ⌜ r ≡ checkNumber (now (t .entry)) ⌝ }
 {
