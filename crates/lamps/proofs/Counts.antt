@@ -6,8 +6,8 @@ use native.Mathlib.Nat.{add-zero, add-suc, add-assoc, suc-add, zero-add, pow-suc
 use native.Mathlib.Omega.{arith}
 use lib.Count.{ones, onesIn, ones-step}
 use Rattle.rules.specs.Search.{countTo}
-use Rattle.lamps.specs.Lamps.{bit}
-use Rattle.lamps.proofs.Words.{bit-low, bit-up}
+use Rattle.octets.specs.Bit.{bit}
+use Rattle.octets.proofs.Bits.{bit-low, bit-up}
 
 pub count-cong : (f g : ℕ → Bool) (n : ℕ) → ((j : ℕ) → j < n → f j ≡ g j) → countTo f n ≡ countTo g n
 count-cong f g zero h = refl

@@ -12,11 +12,12 @@ use Rattle.rules.specs.declared.circuit.Circuit.{Circuit}
 use Rattle.rules.specs.declared.search.Found.{Found}
 use Rattle.rules.specs.declared.search.Found.the-variants.{At, Nothing}
 use Rattle.rules.specs.Search.{countTo, orElse, firstTo, bestTo}
+use Rattle.octets.specs.Bit.{bit}
 use Rattle.rules.specs.Circuit.{free, rank}
 use Rattle.rules.specs.Choice.{choice}
 use Rattle.rules.specs.Records.{circuitAt, circuits}
 use Rattle.rules.proofs.Searches.{FirstIs, first-is, or-nothing, first-none, first-cong}
-use Rattle.lamps.specs.Lamps.{lit, word, fourWords, bit, lampIn, numberIn, lowestIn, litMap}
+use Rattle.lamps.specs.Lamps.{lit, word, fourWords, lampIn, numberIn, lowestIn, litMap}
 use Rattle.lamps.proofs.Words.{word-bit}
 use Rattle.lamps.proofs.Counts.{count-cong}
 use Rattle.lamps.proofs.Lit.{lit-below, lit-past}

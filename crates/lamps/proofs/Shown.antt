@@ -8,7 +8,8 @@ use native.Mathlib.Omega.{arith}
 use lib.ListN.{getD}
 use lib.Count.{ones}
 use Rattle.rules.specs.Search.{countTo}
-use Rattle.lamps.specs.Lamps.{bit, lampIn}
+use Rattle.octets.specs.Bit.{bit}
+use Rattle.lamps.specs.Lamps.{lampIn}
 use Rattle.lamps.proofs.Counts.{count-cong, count-split, ones-count}
 
 module _ (ws : List ℕ) (j : ℕ) where

@@ -1,4 +1,4 @@
--- A word of lamps: how large it is, its bits, and how it grows from the top lamp down.
+-- A word of lamps: how large it is, its lowest bit, its bits, and how it grows from the top lamp down.
 use Prim.Native.Nat.{ℕ, zero, suc, _+_, _-_, _*_, _/_, _%_, _^_, _<_, _≤_}
 use mathlib.Core.Path.{_≡_, refl, sym, ap, ap₂, _∙_}
 use mathlib.Core.Bool.{Bool, true, false, cond}
@@ -8,25 +8,15 @@ use lib.Dec.{eqb}
 use lib.Pow.{pow-mono}
 use lib.Count.{trailingZeros, under}
 use borrow.Author.Tests.{eq-eqb, ne-eqb}
+use Rattle.octets.specs.Bit.{bit}
+use Rattle.octets.proofs.Bits.{bit-low, bit-up}
 use Rattle.rules.specs.declared.search.Found.the-variants.{At}
 use Rattle.rules.proofs.Searches.{FirstIs}
-use Rattle.lamps.specs.Lamps.{wordFrom, bit}
+use Rattle.lamps.specs.Lamps.{wordFrom}
 
 digit-lt : (b : Bool) → cond b 1 0 < 2
 digit-lt true = omega arith
 digit-lt false = omega arith
-
--- ---- the bits of any word
-pub bit-low : (w : ℕ) (b : Bool) → w % 2 ≡ cond b 1 0 → bit w 0 ≡ b
-bit-low w true e = eq-eqb (w / 2 ^ 0 % 2) 1 (omega arith)
-bit-low w false e = ne-eqb (w / 2 ^ 0 % 2) 1 (λ h. omega arith)
-
-pub bit-up : (w i : ℕ) → bit w (suc i) ≡ bit (w / 2) i
-bit-up w i = ap (λ (v : ℕ). eqb (v % 2) 1) (ap (λ (p : ℕ). w / p) (pow-succ' 2 i) ∙ sym (div-div-eq-div-mul w 2 (2 ^ i)))
-
-pub bit-zero : (i : ℕ) → bit 0 i ≡ false
-bit-zero zero = refl
-bit-zero (suc i) = bit-up 0 i ∙ bit-zero i
 
 -- the lowest bit that is 1 stands above the trailing zeros
 trailing-step : (k w t d : ℕ) → w % 2 ≡ d → (d ≡ 0 → FirstIs (bit (w / 2)) k (At t)) → FirstIs (bit w) (suc k) (At (under d t))

@@ -1,9 +1,10 @@
 -- This is 01, "Lamp map": four words of 64 lamps, lit where free, and the number lit.
-use Prim.Native.Nat.{ℕ, zero, suc, _+_, _*_, _/_, _%_, _^_}
+use Prim.Native.Nat.{ℕ, zero, suc, _+_, _*_, _/_, _%_}
 use mathlib.Core.Bool.{Bool, cond, _&&_}
 use mathlib.Core.List.{List, [], _∷_}
 use lib.ListN.{getD, replicate}
 use lib.Dec.{eqb, ltb}
+use Rattle.octets.specs.Bit.{bit}
 use Rattle.rules.specs.declared.circuit.Circuit.{Circuit}
 use Rattle.rules.specs.declared.search.Found.{Found}
 use Rattle.rules.specs.Search.{countTo, firstTo}
@@ -29,9 +30,6 @@ word f j = wordFrom f (64 * j) 64
 
 abbrev pub fourWords : (ℕ → Bool) → List ℕ  -- four words of 64 lamps
 fourWords f = word f 0 ∷ word f 1 ∷ word f 2 ∷ word f 3 ∷ []
-
-abbrev pub bit : ℕ → ℕ → Bool  -- bit i of a word is 1
-bit w i = eqb (w / 2 ^ i % 2) 1
 
 unfoldable pub lampIn : List ℕ → ℕ → Bool  -- lamp c is lit, as four words show it
 lampIn ws c = bit (getD ws (c / 64) 0) (c % 64)

@@ -8,8 +8,8 @@ use native.Mathlib.Numerals.{add-one}
 use native.Mathlib.Omega.{arith}
 use lib.Dec.{eqb}
 use lib.ListN.{getD, set}
-use Rattle.lamps.specs.Lamps.{bit}
-use Rattle.lamps.proofs.Words.{bit-up}
+use Rattle.octets.specs.Bit.{bit}
+use Rattle.octets.proofs.Bits.{bit-up}
 use Rattle.lines.specs.Text.{Written}
 use Rattle.lines.specs.Panel.{lamp, lampsTo}
 use Rattle.lines.proofs.Joined.{joined, said}

@@ -9,7 +9,7 @@ use lib.ListN.{length, getD, length-append, List·getD-append}
 use lib.Seq.{getD-append-add}
 use Rattle.octets.proofs.Spans.{grow}
 use Rattle.rules.specs.declared.search.Found.{Found}
-use Rattle.lamps.specs.Lamps.{bit}
+use Rattle.octets.specs.Bit.{bit}
 use Rattle.lines.specs.Text.{letters}
 use Rattle.lines.specs.Panel.{lamp, lampsTo, row, rowsTo, lastLine, drawing}
 

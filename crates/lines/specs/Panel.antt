@@ -5,7 +5,7 @@ use mathlib.Core.List.{List, [], _++_}
 use lib.ListN.{getD}
 use Rattle.rules.specs.declared.search.Found.{Found}
 use Rattle.rules.specs.declared.search.Found.the-variants.{At, Nothing}
-use Rattle.lamps.specs.Lamps.{bit}
+use Rattle.octets.specs.Bit.{bit}
 use Rattle.lines.specs.Text.{letters, decimal}
 
 abbrev pub lamp : Bool → List ℕ  -- a lamp is `*` where it is lit and `.` where it is dark

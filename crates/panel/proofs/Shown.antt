@@ -6,11 +6,12 @@ use mathlib.Core.List.{List}
 use native.Mathlib.Omega.{arith}
 use lib.ListN.{getD}
 use lib.Dec.{eqb}
+use Rattle.octets.specs.Bit.{bit}
 use Rattle.rules.specs.declared.search.Found.{Found}
 use Rattle.rules.specs.declared.search.Found.the-variants.{At, Nothing}
 use Rattle.rules.specs.Records.{checkNumber}
 use Rattle.lamps.specs.declared.Lamps.{Lamps}
-use Rattle.lamps.specs.Lamps.{bit, litAt, fourWords, lowestIn, litMap, darkMap, lampMap}
+use Rattle.lamps.specs.Lamps.{litAt, fourWords, lowestIn, lampMap}
 use Rattle.lamps.proofs.Shown.{lamp-in}
 use Rattle.lamps.proofs.LowestLamp.{lamp-shown}
 use Rattle.lamps.proofs.Claimed.{shown, lowest-taken, none-lit}

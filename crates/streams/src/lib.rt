@@ -4,8 +4,10 @@ use events::MOST_EVENTS;
 use rules::number::DONE;
 use table::CIRCUIT_SIZE;
 use table::MOST_CIRCUITS;
-ghost use Prim.Native.Nat.{_≤_};
+ghost use mathlib.Core.Path.{_≡_};
+ghost use Prim.Native.Nat.{_*_, _≤_};
 ghost use lib.ListN.{length};
+ghost use Rattle.rules.specs.Records.{eventSize, mostEvents};
 ghost use Rattle.streams.specs.Table.{Checked};
 
 // This room for the table file is one octet more than the largest table has, so that a longer file is seen to be too long.
@@ -18,7 +20,9 @@ pub const FULL_LIST: usize = EVENT_SIZE * MOST_EVENTS;
 pub const LINE: usize = 64;
 
 // Gives room for a full list of events, or for their answers.
-pub fn list_room() -> [u8; FULL_LIST] {
+pub fn list_room() -> [u8; FULL_LIST]
+    ensures { λ r. ⌜ eventSize * mostEvents ≡ length r ⌝ }
+{
     [0; FULL_LIST]
 }
 

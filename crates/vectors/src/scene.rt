@@ -19,7 +19,7 @@ const LIST: usize = EVENT_SIZE * (MOST_EVENTS + 2);
 // A scene plays at most so many events one by one: twice as many as a table has circuits.
 const PLAYED: usize = 2 * MOST_CIRCUITS;
 
-// The last of them starts before this place.
+// The last event that a scene plays starts before this octet.
 const STARTS: usize = EVENT_SIZE * (PLAYED - 1) + 1;
 
 // The octets of a circuit stand in a row before this place.
@@ -28,7 +28,7 @@ const CIRCUIT_END: usize = CIRCUIT_SIZE + 1;
 // The low octet of its holder's identity stands at this place of a circuit.
 const IDENTITY: usize = 7;
 
-// A scene as far as it has come. length: the octets of its table. room: the octets of an answer. played: the octets of the events so far.
+// This is a scene as far as it has come. length: the octets of its table. room: the octets of an answer. played: the octets of the events so far.
 pub struct Scene {
     pub circuits: [u8; TABLE],
     pub table: [u8; TABLE],

@@ -8,12 +8,12 @@ use Rattle.decide.proofs.print_list.Statement.{statement}
 use Rattle.decide.proofs.print_list.Tie as tie
 
 slice-aggregate-decided : tie.Need-slice-aggregate-decided
-slice-aggregate-decided c = sym (length-take-le _ _ (omega (arith, c .before .before .before .large-buffer .ensures)))
+slice-aggregate-decided c = sym (length-take-le _ _ (omega (arith, c .before .before .before .list-room .ensures)))
 
 decided-requires : tie.Need-decided-requires
 decided-requires c κs =
     let four = c .before .before .before .before in
-    (omega (arith, length-take (length (four .before .before .before .args .events .now)) (four .large-buffer .result)), (omega arith, omega (arith, c .before .before .before .space .ensures)))
+    (omega (arith, length-take (length (four .before .before .before .args .events .now)) (four .list-room .result)), (omega arith, omega (arith, c .before .before .before .space .ensures)))
 
 slice-aggregate-write : tie.Need-slice-aggregate-write
 slice-aggregate-write c = sym (length-take-le _ _ (omega (arith, c .before .before .before .before .before .decided .ensures .1 .1, c .before .before .before .before .before .decided .kept .1 .1 .1 .1 .0)))

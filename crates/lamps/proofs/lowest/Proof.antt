@@ -10,8 +10,10 @@ use mir.Val.{Fits}
 use mir.Syntax.{w64}
 use borrow.Author.Needs.{needs}
 use Rattle.rules.proofs.Searches.{first-of, first-none}
-use Rattle.lamps.specs.Lamps.{lampIn, bit, lowestIn}
-use Rattle.lamps.proofs.Words.{trailing-first, bit-zero}
+use Rattle.octets.specs.Bit.{bit}
+use Rattle.octets.proofs.Bits.{bit-zero}
+use Rattle.lamps.specs.Lamps.{lampIn, lowestIn}
+use Rattle.lamps.proofs.Words.{trailing-first}
 use Rattle.lamps.proofs.Shown.{lamp-in, dark-to}
 use Rattle.lamps.proofs.lowest.Statement.{statement}
 use Rattle.lamps.proofs.lowest.Tie as tie

@@ -7,7 +7,7 @@ use native.Mathlib.Omega.{arith}
 use lib.ListN.{length}
 use denote.Ref.{now}
 use Rattle.octets.proofs.Spans.{length-put}
-use Rattle.lamps.specs.Lamps.{bit}
+use Rattle.octets.specs.Bit.{bit}
 use Rattle.lines.specs.Text.{letters, Written}
 use Rattle.lines.specs.Panel.{row, lampsTo}
 use Rattle.lines.proofs.Joined.{joined, said}
