@@ -9,7 +9,6 @@ use rules::part::Reference;
 ghost use mathlib.Core.Path.{_≡_};
 ghost use Prim.Native.Nat.{_+_, _*_, _≤_};
 ghost use lib.ListN.{length};
-ghost use Rattle.octets.specs.Number.{Octets};
 ghost use Rattle.octets.specs.Span.{span, put};
 ghost use Rattle.rules.specs.Records.{eventSize, eventIn, markIn, referenceIn, eventAt, answerSize, answerOctets, answerIn, answerNumber, answerCause, answerDetail, lostCall, lostReservation, isLost, lostReference};
 
@@ -142,16 +141,14 @@ pub type Lost = [u8; 6];
 
 // Gives the holder that an answer names as lost.
 pub fn lost_call(a: [u8; ANSWER_SIZE]) -> Lost
-    ensures party { λ r. ⌜ r ≡ lostCall a ⌝ }
-    ensures octets { λ r. ⌜ Octets r ⌝ }
+    ensures { λ r. ⌜ r ≡ lostCall a ⌝ }
 {
     [a[4], a[5], a[6], a[7], a[8], a[9]]
 }
 
 // Gives the reservation that an answer names as lost.
 pub fn lost_reservation(a: [u8; ANSWER_SIZE]) -> Lost
-    ensures party { λ r. ⌜ r ≡ lostReservation a ⌝ }
-    ensures octets { λ r. ⌜ Octets r ⌝ }
+    ensures { λ r. ⌜ r ≡ lostReservation a ⌝ }
 {
     [a[10], a[11], a[12], a[13], a[14], a[15]]
 }

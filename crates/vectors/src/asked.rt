@@ -1,4 +1,4 @@
-// The rows that ask, and leave the scene as it is.
+// These rows ask, and leave the scene as it is.
 use crate::field;
 use crate::scene::Scene;
 use crate::scene::TABLE;
@@ -59,7 +59,7 @@ fn tried(mut t: [u8; TABLE], n: usize, place: u8, x: u8) {
     text::number(validity::check(script::first(&t, n)) as u64);
 }
 
-// Writes the place of an octet, and what the check gives where that octet is changed to each value of the row in turn.
+// Writes which octet of a table is meant, and what the check gives where that octet is changed to each value of the row in turn.
 fn changed(scene: Scene, row: &[u8]) {
     let table = scene.table;
     let place = script::octet(row, 0);

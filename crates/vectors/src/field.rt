@@ -1,4 +1,4 @@
-// The rows that read and write the two message fields.
+// These rows read and write the two message fields.
 use crate::script;
 use crate::script::ROW;
 use crate::text;

@@ -1,4 +1,4 @@
-// Both sides of every line of document 01: a script on standard input, written out again with what each row answers after it.
+// The program plays both sides of every line of document 01: a script on standard input is written out again with what each row answers after it.
 mod asked;
 mod field;
 mod scene;
@@ -10,8 +10,13 @@ use libc::STDIN_FILENO;
 // The script has room for so many letters.
 const LETTERS: usize = 128 * 1024;
 
+// Gives room for the script.
+fn room() -> [u8; LETTERS] {
+    [0; LETTERS]
+}
+
 fn main() {
-    let mut script = [0u8; LETTERS];
+    let mut script = room();
     let n = io::read_full(STDIN_FILENO, &mut script);
     scene::play(script::first(&script, n));
 }

@@ -1,4 +1,4 @@
-// Scenes of the script: circuits, a table, its events one by one, and the same events as a list.
+// A scene of the script has circuits, a table, its events one by one, and the same events as a list.
 use crate::asked;
 use crate::script;
 use crate::script::ROW;
@@ -16,16 +16,19 @@ pub const TABLE: usize = CIRCUIT_SIZE * (MOST_CIRCUITS + 1);
 // A list has room for two more events than a list may have, so that too many can be tried.
 const LIST: usize = EVENT_SIZE * (MOST_EVENTS + 2);
 
+// This octet stands in every place for an answer before it is written.
+const UNWRITTEN: u8 = 0xee;
+
 // A scene plays at most so many events one by one: twice as many as a table has circuits.
 const PLAYED: usize = 2 * MOST_CIRCUITS;
 
 // The last event that a scene plays starts before this octet.
 const STARTS: usize = EVENT_SIZE * (PLAYED - 1) + 1;
 
-// The octets of a circuit stand in a row before this place.
+// The octets of a circuit stand in a row before this octet.
 const CIRCUIT_END: usize = CIRCUIT_SIZE + 1;
 
-// The low octet of its holder's identity stands at this place of a circuit.
+// This octet of a circuit is the low octet of its holder's identity.
 const IDENTITY: usize = 7;
 
 // This is a scene as far as it has come. length: the octets of its table. room: the octets of an answer. played: the octets of the events so far.
@@ -59,9 +62,9 @@ fn circuit(mut scene: Scene, number: u8, row: &[u8], identity: u8) -> Scene
     requires { ⌜ 33 ≤ length (now row) ⌝ }
 {
     let mut circuits = scene.circuits;
-    let place = CIRCUIT_SIZE * (number as usize);
-    octets::write(&mut circuits, place, &row[1..CIRCUIT_END]);
-    circuits[place + IDENTITY] = identity;
+    let at = CIRCUIT_SIZE * (number as usize);
+    octets::write(&mut circuits, at, &row[1..CIRCUIT_END]);
+    circuits[at + IDENTITY] = identity;
     scene.circuits = circuits;
     scene
 }
@@ -131,7 +134,7 @@ fn event(mut scene: Scene, row: &[u8], given: &[u8]) -> Scene
     requires { ⌜ 16 ≤ length (now row) ⌝ }
 {
     let mut table = scene.table;
-    let mut answer = [0xeeu8; ROW];
+    let mut answer = [UNWRITTEN; ROW];
     let number = route::event(
         script::room(&mut table, scene.length),
         given,
@@ -152,16 +155,16 @@ fn compared(a: &[u8], b: &[u8], what: &[u8]) {
     text::put(what);
 }
 
-// Writes the circuit at a place, if there is one.
-fn shown(t: &[u8], place: usize)
-    requires { ⌜ place < 128 ⌝ }
+// Writes the circuit from octet `at` on, if there is one.
+fn shown(t: &[u8], at: usize)
+    requires { ⌜ at < 128 ⌝ }
 {
-    let end = place + CIRCUIT_SIZE;
+    let end = at + CIRCUIT_SIZE;
     if t.len() < end {
         return;
     }
     text::letter(b'=');
-    text::barred(t, place, end);
+    text::barred(t, at, end);
     text::letter(b'\n');
 }
 
@@ -183,11 +186,16 @@ fn more(n: usize, row: &[u8], high: usize, middle: usize, low: usize) -> usize {
     std::num::wrapping_add_usize(n, extra as usize)
 }
 
+// Gives room for a list, with x in every octet.
+fn list_room(x: u8) -> [u8; LIST] {
+    [x; LIST]
+}
+
 // Writes what a list gave back, and whether it wrote nothing.
 fn list_answered(number: u8, places: &[u8]) {
     text::letter(b'=');
     text::number(number as u64);
-    if check::same(places, &[0xeeu8; LIST]) {
+    if check::same(places, &list_room(UNWRITTEN)) {
         text::put(b", nothing written");
     }
 }
@@ -206,10 +214,10 @@ fn list_compared(scene: Scene, places: &[u8], t: &[u8]) {
     circuits(script::first(&table, scene.length));
 }
 
-// The events of a scene, and zeros after them.
+// Gives the events of a scene, and zeros after them.
 fn listed(scene: Scene) -> [u8; LIST] {
     let played = scene.events;
-    let mut events = [0u8; LIST];
+    let mut events = list_room(0);
     octets::write(&mut events, 0, &played);
     events
 }
@@ -218,7 +226,7 @@ fn listed(scene: Scene) -> [u8; LIST] {
 fn list(scene: Scene, row: &[u8]) {
     let mut table = scene.circuits;
     let events = listed(scene);
-    let mut places = [0xeeu8; LIST];
+    let mut places = list_room(UNWRITTEN);
     let number = route::list(
         script::room(&mut table, scene.length),
         script::first(&events, more(scene.played, row, 0, 1, 2)),

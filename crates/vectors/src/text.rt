@@ -1,4 +1,4 @@
-// Cells of an answer on standard output, each after a space.
+// This module writes the cells of an answer to standard output, each after a space.
 use crate::script;
 use libc::STDOUT_FILENO;
 use rules::search::Found;
@@ -34,7 +34,7 @@ pub fn found(f: Found) {
     }
 }
 
-// Writes the octets from a place to an end.
+// Writes the octets from octet `from` to before `end`.
 pub fn octets(s: &[u8], from: usize, end: usize) {
     let mut k = from;
     while k < end {
@@ -43,7 +43,7 @@ pub fn octets(s: &[u8], from: usize, end: usize) {
     }
 }
 
-// Writes a bar, and after it the octets from a place to an end.
+// Writes a bar, and after it the octets from octet `from` to before `end`.
 pub fn barred(s: &[u8], from: usize, end: usize) {
     letter(b' ');
     letter(b'|');

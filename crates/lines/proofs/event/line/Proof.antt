@@ -1,9 +1,11 @@
 -- The numbers, then the two parties.
-use mathlib.Core.Path.{ap, subst}
+use mathlib.Core.Path.{ap}
 use Prim.Native.Nat.{ℕ}
 use mathlib.Core.List.{List}
 use native.Mathlib.Omega.{arith}
-use Rattle.octets.specs.Number.{Octets}
+use lib.ListN.{getD}
+use mir.Syntax.{w8}
+use mir.Val.{Fits}
 use Rattle.lines.specs.Event.{field, party, line}
 use Rattle.lines.proofs.Joined.{joined, said}
 use Rattle.lines.proofs.Lengths.{line-length}
@@ -18,12 +20,11 @@ returns c =
     let call = reservation .before .before .before .before .before in
     let numbers = call .before .before .before .before .before in
     let a = numbers .before .before .before .args in
-    let called = said (ap (λ (l : List ℕ). field (party l)) (call .before .lost-call .ensures .0)) (call .party .ensures .0) in
-    let reserved = said (ap (λ (l : List ℕ). field (party l)) (reservation .before .lost-reservation .ensures .0)) (reservation .party2 .ensures .0) in
+    let called = said (ap (λ (l : List ℕ). field (party l)) (call .before .lost-call .ensures)) (call .party .ensures .0) in
+    let reserved = said (ap (λ (l : List ℕ). field (party l)) (reservation .before .lost-reservation .ensures)) (reservation .party2 .ensures .0) in
     let whole = joined (joined (joined (numbers .numbers .ensures .0) called) reserved) (c .before .before .put .ensures) in
-    let first = subst Octets (call .before .lost-call .ensures .0) (call .before .lost-call .ensures .1) in
-    let second = subst Octets (reservation .before .lost-reservation .ensures .0) (reservation .before .lost-reservation .ensures .1) in
-    (whole, omega (arith, whole .end, line-length (a .a) first second (a .n) (omega (arith, numbers .numbers .ensures .0 .end, numbers .numbers .ensures .1))))
+    let octet : (i : ℕ) → Fits w8 (getD (a .a) i 0) = λ i. search needs in
+    (whole, omega (arith, whole .end, line-length (a .a) (λ i. octet i .fits) (a .n) (omega (arith, numbers .numbers .ensures .0 .end, numbers .numbers .ensures .1))))
 
 pub line-spec : {M : Type 1} → statement M
 line-spec =

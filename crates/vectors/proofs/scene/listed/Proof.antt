@@ -1,14 +1,11 @@
 -- A list has room for the events of a scene.
-use Prim.Native.Nat.{ℕ}
-use mathlib.Core.Path.{sym}
-use lib.ListN.{length-replicate}
 use native.Mathlib.Omega.{arith}
 use borrow.Author.Needs.{needs}
 use Rattle.vectors.proofs.scene.listed.Statement.{statement}
 use Rattle.vectors.proofs.scene.listed.Tie as tie
 
 slice-aggregate-write : tie.Need-slice-aggregate-write
-slice-aggregate-write c = sym (length-replicate {A = ℕ} 65568 0)
+slice-aggregate-write c = search needs
 
 slice-aggregate-write-2 : tie.Need-slice-aggregate-write-2
 slice-aggregate-write-2 c = search needs
@@ -20,6 +17,7 @@ pub listed-spec : {M : Type 1} → statement M
 listed-spec =
     tie.close
     (tie.spec
+    (λ c κs. search needs)
     slice-aggregate-write
     slice-aggregate-write-2
     write-requires
