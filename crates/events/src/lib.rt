@@ -5,6 +5,7 @@ use rules::level::Level;
 use rules::mark::Mark;
 use rules::outcome;
 use rules::parameter;
+use rules::part::REFERENCE_SIZE;
 use rules::part::Reference;
 ghost use mathlib.Core.Path.{_≡_};
 ghost use Prim.Native.Nat.{_+_, _*_, _≤_};
@@ -137,7 +138,7 @@ pub fn detail(a: [u8; ANSWER_SIZE]) -> u16
 }
 
 // A lost party stands in an answer as its flag and its reference.
-pub type Lost = [u8; 6];
+pub type Lost = [u8; 1 + REFERENCE_SIZE];
 
 // Gives the holder that an answer names as lost.
 pub fn lost_call(a: [u8; ANSWER_SIZE]) -> Lost
