@@ -5,3 +5,4 @@ pub mod Demand
 pub mod Accidents
 pub mod OneByOne
 pub mod Instance
+pub mod Figures

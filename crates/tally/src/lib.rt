@@ -1,0 +1,1 @@
+// This crate carries out a list of events and adds it to the day's figures.
