@@ -1,0 +1,47 @@
+-- Every answer's number is below 64, so that each has its place among the totals.
+use Prim.Native.Nat.{ℕ, _<_}
+use mathlib.Core.Bool.{Bool, true, false, cond, _||_}
+use mathlib.Core.List.{List}
+use native.Mathlib.Omega.{arith}
+use Rattle.rules.specs.declared.circuit.Circuit.{Circuit}
+use Rattle.rules.specs.declared.event.Event.{Event}
+use Rattle.rules.specs.declared.outcome.Act.the-variants.{Seize, Reserve, Release, Cancel}
+use Rattle.rules.specs.declared.outcome.Refusal.{Refusal}
+use Rattle.rules.specs.declared.outcome.Refusal.the-variants.{Malformed, TableNotValid, NotAllowed, ByRoutine, AlreadyThere, MarkDiffers, HolderNotLower, NotThere, NoCircuitForRoutine, NoCircuit, NoCircuitToReserve}
+use Rattle.rules.specs.declared.outcome.Outcome.{Outcome}
+use Rattle.rules.specs.declared.outcome.Outcome.the-variants.{Refuse, Do, Clock}
+use Rattle.rules.specs.Numbers.{refusalNumber}
+use Rattle.rules.specs.Answer.{anothers, answerOf}
+use Rattle.rules.specs.Layout.{Layout}
+use Rattle.rules.specs.Run.{outcomeOf, answered}
+
+refusal-below : (r : Refusal) → refusalNumber r < 64
+refusal-below Malformed = omega arith
+refusal-below TableNotValid = omega arith
+refusal-below NotAllowed = omega arith
+refusal-below ByRoutine = omega arith
+refusal-below AlreadyThere = omega arith
+refusal-below MarkDiffers = omega arith
+refusal-below HolderNotLower = omega arith
+refusal-below NotThere = omega arith
+refusal-below NoCircuitForRoutine = omega arith
+refusal-below NoCircuit = omega arith
+refusal-below NoCircuitToReserve = omega arith
+
+either-below : (b : Bool) (j k : ℕ) → j < 64 → k < 64 → cond b j k < 64
+either-below true j k p q = p
+either-below false j k p q = q
+
+module _ (x : ℕ → Circuit) (n : ℕ) (e : Event) where
+  outcome-below : (o : Outcome) → answerOf x n e o .number < 64
+  unfolding answerOf
+  outcome-below (Refuse r) = refusal-below r
+  outcome-below (Do Seize i) = either-below (x i .holder .present || anothers (e .reference) (x i .reservation) .present) 2 1 (omega arith) (omega arith)
+  outcome-below (Do Reserve i) = either-below (x i .reservation .present) 4 3 (omega arith) (omega arith)
+  outcome-below (Do Release i) = omega arith
+  outcome-below (Do Cancel i) = omega arith
+  outcome-below Clock = omega arith
+
+pub number-below : {S : Type 0} (L : Layout S) (s : S) (e : List ℕ) → answered L s e .number < 64
+unfolding answered
+number-below L s e = outcome-below (L .view s) (L .count s) (L .event e) (outcomeOf L s (L .event e))
