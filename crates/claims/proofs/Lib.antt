@@ -19,3 +19,4 @@ pub mod Alone
 pub mod Checked
 pub mod Filled
 pub mod Carried
+pub mod Closing
