@@ -19,4 +19,6 @@ pub mod Alone
 pub mod Checked
 pub mod Filled
 pub mod Carried
+pub mod Added
 pub mod Closing
+pub mod Closed

@@ -1,0 +1,106 @@
+-- What an event adds at each place of the totals.
+use Prim.Native.Nat.{ℕ, _+_, _*_, _<_, _≤_}
+use mathlib.Core.Path.{_≡_, refl, sym, ap, _∙_}
+use mathlib.Core.Logic.{_≢_}
+use mathlib.Core.Bool.{Bool, true, false, cond}
+use native.Mathlib.Omega.{arith}
+use borrow.Author.Tests.{eq-eqb, ne-eqb}
+use Rattle.octets.proofs.Tests.{by-eq, by-so}
+use Rattle.tally.specs.Places as place
+use Rattle.tally.specs.Shares.{at, one, isSeizure, isRelease, adds}
+
+pub at-on : (p n j : ℕ) → p ≡ j → at p n j ≡ n
+at-on p n j h = ap (λ (b : Bool). cond b n 0) (eq-eqb p j h)
+
+pub at-off : (p n j : ℕ) → p ≢ j → at p n j ≡ 0
+at-off p n j h = ap (λ (b : Bool). cond b n 0) (ne-eqb p j h)
+
+pub at-le : (p n j : ℕ) → at p n j ≤ n
+at-le p n j = by-eq p j (λ z. omega (arith, at-on p n j z)) (λ z. omega (arith, at-off p n j z))
+
+-- the same, o places further on
+at-shifted : (o p q n j : ℕ) → q ≡ o + p → at q n (o + j) ≡ at p n j
+at-shifted o p q n j h =
+    by-eq p j (λ z. at-on q n (o + j) (omega arith) ∙ sym (at-on p n j z)) (λ z. at-off q n (o + j) (λ w. z (omega arith)) ∙ sym (at-off p n j z))
+
+pub one-most : (b : Bool) → one b ≤ 1
+one-most true = omega arith
+one-most false = omega arith
+
+-- what is added at one place, and elsewhere at most m, is at most m where it is so at that place
+pub at-most : (p n m : ℕ) (g : ℕ → ℕ) → n + g p ≤ m → ((j : ℕ) → g j ≤ m) → (j : ℕ) → at p n j + g j ≤ m
+at-most p n m g here elsewhere j =
+    by-eq p j (λ z. let a = at-on p n j z in let b = ap g z in omega arith) (λ z. omega (arith, at-off p n j z, elsewhere j))
+
+module _ (kind taker k : ℕ) (lost : Bool) (loser : ℕ) where
+  abbrev a : ℕ → ℕ  -- what the event adds to total j
+  a = adds kind taker k lost loser
+
+  abbrev p : ℕ  -- the place of the two levels
+  p = place.lostByLevel taker loser
+
+  -- nothing of the two levels or of the number falls below place 6
+  module _ (j : ℕ) (l : j < 6) where
+    off-level : at p (one lost) j ≡ 0
+    off-level = at-off p (one lost) j (λ z. omega arith)
+
+    off-number : at (place.answered k) 1 j ≡ 0
+    off-number = at-off (place.answered k) 1 j (λ z. omega arith)
+
+  pub adds-seized : a place.seized ≡ one (isSeizure kind k)
+  unfolding adds
+  adds-seized = omega (arith, off-level 2 (omega arith), off-number 2 (omega arith))
+
+  pub adds-released : a place.released ≡ one (isRelease k)
+  unfolding adds
+  adds-released = omega (arith, off-level 3 (omega arith), off-number 3 (omega arith))
+
+  pub adds-lost : a place.lost ≡ one lost
+  unfolding adds
+  adds-lost = omega (arith, off-level 4 (omega arith), off-number 4 (omega arith))
+
+  -- of the first six places, seizures, releases and lost holders have one each
+  pub adds-none : (j : ℕ) → j < 6 → j ≢ place.seized → j ≢ place.released → j ≢ place.lost → a j ≡ 0
+  unfolding adds
+  adds-none j l x y z =
+      omega (arith, at-off 2 (one (isSeizure kind k)) j (λ w. x (sym w)), at-off 3 (one (isRelease k)) j (λ w. y (sym w)), at-off 4 (one lost) j (λ w. z (sym w)), off-level j l, off-number j l)
+
+  -- from place 6 on there are the two levels and the number
+  from-six : (j : ℕ) → 6 ≤ j → a j ≡ at p (one lost) j + at (place.answered k) 1 j
+  unfolding adds
+  from-six j l =
+      omega (arith, at-off 2 (one (isSeizure kind k)) j (λ z. omega arith), at-off 3 (one (isRelease k)) j (λ z. omega arith), at-off 4 (one lost) j (λ z. omega arith))
+
+  pub adds-by-level : (i : ℕ) → i < 25 → a (6 + i) ≡ at (5 * taker + loser) (one lost) i
+  adds-by-level i l =
+      omega (arith, from-six (6 + i) (omega arith), at-off (place.answered k) 1 (6 + i) (λ z. omega arith), at-shifted 6 (5 * taker + loser) p (one lost) i (omega arith))
+
+  -- where a holder is lost, the place of the two levels stands before those of the numbers
+  module _ (within : lost ≡ true → p < 31) where
+    level-off : (j : ℕ) → 31 ≤ j → at p (one lost) j ≡ 0
+    level-off j l =
+        by-so lost (λ t. at-off p (one lost) j (λ z. omega (arith, within t)))
+        (λ t. let none = ap one t in omega (arith, at-le p (one lost) j))
+
+    pub adds-answered : (i : ℕ) → a (31 + i) ≡ at k 1 i
+    adds-answered i =
+        omega (arith, from-six (31 + i) (omega arith), level-off (31 + i) (omega arith), at-shifted 31 k (place.answered k) 1 i refl)
+
+    -- an event adds at most 1 at each place: each test has a place of its own
+    pub adds-most : (j : ℕ) → a j ≤ 1
+    unfolding adds
+    adds-most j =
+        let g = at (place.answered k) 1 in
+        let h : ℕ → ℕ = λ j. at p (one lost) j + g j in
+        let number : (j : ℕ) → g j ≤ 1 = at-le (place.answered k) 1 in
+        let level : (j : ℕ) → h j ≤ 1 = at-most p (one lost) 1 g (apart (number p)) number in
+        let low : (j : ℕ) → j < 6 → h j ≡ 0 = λ j l. omega (arith, off-level j l, off-number j l) in
+        let loss = at-most 4 (one lost) 1 h (omega (arith, one-most lost, low 4 (omega arith))) level in
+        let release = at-most 3 (one (isRelease k)) 1 (λ j. at 4 (one lost) j + h j) (omega (arith, one-most (isRelease k), low 3 (omega arith))) loss in
+        let seizure = at-most 2 (one (isSeizure kind k)) 1 (λ j. at 3 (one (isRelease k)) j + (at 4 (one lost) j + h j)) (omega (arith, one-most (isSeizure kind k), low 2 (omega arith))) release in
+        omega (arith, seizure j)
+      where
+        apart : at (place.answered k) 1 p ≤ 1 → one lost + at (place.answered k) 1 p ≤ 1
+        apart h =
+            by-so lost (λ t. let l = within t in omega (arith, one-most lost, at-off (place.answered k) 1 p (λ z. omega arith)))
+            (λ t. let none = ap one t in omega arith)
