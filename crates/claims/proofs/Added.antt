@@ -1,8 +1,8 @@
 -- A list is added to the totals exactly where number 0 comes back: then table and answers are the list entry's, and else nothing is changed.
 use Prim.Native.Nat.{ℕ, _+_, _<_}
-use mathlib.Core.Path.{_≡_, refl, ap, _∙_}
+use mathlib.Core.Path.{_≡_, refl, sym, ap, _∙_}
 use mathlib.Core.Logic.{_≢_}
-use mathlib.Core.Bool.{Bool, true, false, cond, _&&_}
+use mathlib.Core.Bool.{Bool, true, false, cond, _&&_, true≢false}
 use mathlib.Core.List.{List}
 use native.Mathlib.Omega.{arith}
 use lib.ListN.{length}
@@ -14,7 +14,7 @@ use Rattle.route.specs.Entries.{eventsIn, listLengths, listNumber, listTable, l
 use Rattle.tally.specs.Places as place
 use Rattle.tally.specs.Shares.{listAdds}
 use Rattle.tally.specs.Entry.{hasRoom, added, figuresLengths, figuresNumber, isAdded, figuresTable, figuresAnswers, figuresTotals}
-use Rattle.tally.proofs.Added.{added-at}
+use Rattle.tally.proofs.Added.{length-added, added-at}
 use Rattle.claims.specs.Figures.{total, SameAsList, AddsNothing}
 
 -- 0 comes of right lengths and room alone
@@ -35,6 +35,9 @@ module _ (t es places f : List ℕ) where
 
   -- a list that is not added
   module _ (h : isAdded t es places f ≡ false) where
+    pub not-done : figuresNumber t es places f ≢ 0
+    not-done z = true≢false (sym (done-added z) ∙ h)
+
     pub not-added : (figuresTable t es places f ≡ t) × (figuresAnswers t es places f ≡ places) × (figuresTotals t es places f ≡ f)
     unfolding figuresTable figuresAnswers figuresTotals
     not-added = (
@@ -52,6 +55,16 @@ module _ (t es places f : List ℕ) where
     pub list-lengths : listLengths t es places ≡ true
     list-lengths = facts .0
 
+    pub list-done : listNumber t es places ≡ 0
+    unfolding listNumber
+    list-done = ap (λ (b : Bool). cond b 0 20) list-lengths
+
+    pub figures-done : figuresNumber t es places f ≡ 0
+    unfolding figuresNumber isAdded
+    figures-done =
+        let both : (figuresLengths t es places f ≡ true) × (hasRoom f ≡ true) = halves h in
+        ap (λ (b : Bool). cond b (cond (hasRoom f) 0 60) 20) (both .0) ∙ ap (λ (b : Bool). cond b 0 60) (both .1)
+
     pub had-room : hasRoom f ≡ true
     had-room = facts .2
 
@@ -67,6 +80,12 @@ module _ (t es places f : List ℕ) where
     unfolding listTable
     table-run = same-table ∙ ap (λ (b : Bool). cond b (run records t (eventsIn es)) t) list-lengths
 
+    pub many-totals : length (figuresTotals t es places f) ≡ place.figures
+    unfolding figuresTotals
+    many-totals =
+        let n = listAdds records t (eventsIn es) in
+        ap (λ (b : Bool). length (cond b (added n f) f)) h ∙ length-added n f ∙ facts .1
+
     -- each total has what the list adds to it
     pub total-added : (j : ℕ) → j < place.figures → total (figuresTotals t es places f) j ≡ total f j + listAdds records t (eventsIn es) j
     unfolding figuresTotals
@@ -75,10 +94,9 @@ module _ (t es places f : List ℕ) where
         ap (λ (b : Bool). total (cond b (added n f) f) j) h ∙ added-at n f j (let k = facts .1 in omega arith)
 
 pub same-as-list : SameAsList
-unfolding listNumber
 same-as-list t es places f h =
     let q = done-added t es places f h in
-    (ap (λ (b : Bool). cond b 0 20) (list-lengths t es places f q), same-table t es places f q, same-answers t es places f q)
+    (list-done t es places f q, same-table t es places f q, same-answers t es places f q)
 
 pub adds-nothing : AddsNothing
 unfolding figuresNumber isAdded

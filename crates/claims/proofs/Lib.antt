@@ -22,3 +22,4 @@ pub mod Carried
 pub mod Added
 pub mod Closing
 pub mod Closed
+pub mod Bounded
