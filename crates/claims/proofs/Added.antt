@@ -12,9 +12,10 @@ use Rattle.rules.specs.Run.{run}
 use Rattle.rules.specs.Records.{records}
 use Rattle.route.specs.Entries.{eventsIn, listLengths, listNumber, listTable, listAnswers}
 use Rattle.tally.specs.Places as place
-use Rattle.tally.specs.Shares.{listAdds}
+use Rattle.tally.specs.Shares.{eventsAdd, listAdds}
 use Rattle.tally.specs.Entry.{hasRoom, added, figuresLengths, figuresNumber, isAdded, figuresTable, figuresAnswers, figuresTotals}
 use Rattle.tally.proofs.Added.{length-added, added-at}
+use Rattle.tally.proofs.Lists.{list-events}
 use Rattle.claims.specs.Figures.{total, SameAsList, AddsNothing}
 
 -- 0 comes of right lengths and room alone
@@ -92,6 +93,10 @@ module _ (t es places f : List ℕ) where
     total-added j l =
         let n = listAdds records t (eventsIn es) in
         ap (λ (b : Bool). total (cond b (added n f) f) j) h ∙ added-at n f j (let k = facts .1 in omega arith)
+
+    -- but at the places of a list itself, that is what its events add
+    pub by-events : (j : ℕ) → j < place.figures → j ≢ place.lists → j ≢ place.start → j ≢ place.end → total (figuresTotals t es places f) j ≡ total f j + eventsAdd records t (eventsIn es) j
+    by-events j l x y z = total-added j l ∙ ap (λ (n : ℕ). total f j + n) (list-events records t (eventsIn es) j x y z)
 
 pub same-as-list : SameAsList
 same-as-list t es places f h =

@@ -1,7 +1,6 @@
 -- The figures close: of a list, of lists over any tables, and of lists over one table.
-use Prim.Native.Nat.{ℕ, _+_, _<_}
+use Prim.Native.Nat.{ℕ, _+_}
 use mathlib.Core.Path.{_≡_, refl, sym, ap, subst}
-use mathlib.Core.Logic.{_≢_}
 use mathlib.Core.Bool.{true}
 use mathlib.Core.List.{List, [], _∷_}
 use native.Mathlib.Omega.{arith}
@@ -16,11 +15,11 @@ use Rattle.tally.specs.Places as place
 use Rattle.tally.specs.Shares.{holders, eventsAdd}
 use Rattle.tally.specs.Entry.{isAdded, figuresTotals}
 use Rattle.tally.proofs.Placed.{adds-seized, adds-released, adds-lost}
-use Rattle.tally.proofs.Lists.{list-start, list-end, list-events}
+use Rattle.tally.proofs.Lists.{list-start, list-end}
 use Rattle.claims.specs.Lists.{EventList}
 use Rattle.claims.specs.Figures.{total, noFigures, Closes, TableList, addList, totalsAfter, FiguresClose, Figured, figured, figuredAfter, OneRoute}
 use Rattle.claims.proofs.Closing.{event-closes}
-use Rattle.claims.proofs.Added.{not-added, table-run, total-added}
+use Rattle.claims.proofs.Added.{not-added, table-run, total-added, by-events}
 
 -- ---- a list, in any lawful layout
 module _ {S : Type 0} (L : Layout S) (W : Lawful L) where
@@ -39,18 +38,12 @@ module _ (t es places f : List ℕ) (h : isAdded t es places f ≡ true) where
   abbrev g : List ℕ  -- the totals after it
   g = figuresTotals t es places f
 
-  abbrev events : ℕ → ℕ  -- what its events add
-  events = eventsAdd records t (eventsIn es)
-
-  by-events : (j : ℕ) → j < place.figures → j ≢ place.lists → j ≢ place.start → j ≢ place.end → total g j ≡ total f j + events j
-  by-events j l x y z = omega (arith, total-added t es places f h j l, list-events records t (eventsIn es) j x y z)
-
   -- the holders before it and what it adds to the seizures are what it adds to the releases and to the lost holders, and the holders after it
   list-closes : holders records t + total g place.seized + total f place.released + total f place.lost ≡ total f place.seized + total g place.released + total g place.lost + holders records (run records t (eventsIn es))
   list-closes =
-      let seized = by-events place.seized (omega arith) (λ z. omega arith) (λ z. omega arith) (λ z. omega arith) in
-      let released = by-events place.released (omega arith) (λ z. omega arith) (λ z. omega arith) (λ z. omega arith) in
-      let lost = by-events place.lost (omega arith) (λ z. omega arith) (λ z. omega arith) (λ z. omega arith) in
+      let seized = by-events t es places f h place.seized (omega arith) (λ z. omega arith) (λ z. omega arith) (λ z. omega arith) in
+      let released = by-events t es places f h place.released (omega arith) (λ z. omega arith) (λ z. omega arith) (λ z. omega arith) in
+      let lost = by-events t es places f h place.lost (omega arith) (λ z. omega arith) (λ z. omega arith) (λ z. omega arith) in
       omega (arith, events-close records lawful (eventsIn es) t)
 
   still-close : Closes f → Closes g

@@ -23,3 +23,5 @@ pub mod Added
 pub mod Closing
 pub mod Closed
 pub mod Bounded
+pub mod Rows
+pub mod Once
