@@ -83,14 +83,11 @@ below-all m f h zero = refl
 below-all m f h (suc k) = and-both (belowTo m f k) (ltb (total f k) m) (below-all m f h k) (lt-ltb (total f k) m (h k))
 
 module _ (f : List ℕ) (n : ℕ) (h : After f n) where
-  small : (j : ℕ) → total f j ≤ 268435456
-  small j = let m = h .most in omega (arith, h .each j)
-
   -- the count of lists alone decides
   room-so : hasRoom f ≡ ltb n mostLists
   unfolding hasRoom
   room-so =
-      let below = below-all full f (λ j. omega (arith, small j)) place.figures in
+      let below = below-all full f (λ j. omega (arith, h .each j, h .most)) place.figures in
       ap (λ (b : Bool). ltb (total f place.lists) mostLists && b) below ∙ and-true (ltb (total f place.lists) mostLists) ∙ ap (λ (k : ℕ). ltb k mostLists) (h .counted)
 
   exactly : (t es places : List ℕ) → figuresLengths t es places f ≡ true → (figuresNumber t es places f ≡ 60) ↔ (n ≡ mostLists)
@@ -115,4 +112,4 @@ never-full ls =
     let f = totalsAfter noFigures ls in
     let n = carriedOut noFigures ls in
     let h = subst (After f) (zero-add n) (carried-after ls noFigures 0 start) in
-    record { counted = h .counted; most = h .most; each = h .each; small = small f n h; exactly = exactly f n h }
+    record { counted = h .counted; most = h .most; each = h .each; small = λ j. omega (arith, h .each j, h .most); exactly = exactly f n h }

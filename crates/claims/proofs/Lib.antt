@@ -25,3 +25,4 @@ pub mod Closed
 pub mod Bounded
 pub mod Rows
 pub mod Once
+pub mod Losers

@@ -45,13 +45,13 @@ module _ {S : Type 0} (L : Layout S) where
       each-falls-once L 31 64 every number falls-by-number (λ s es. length es) (record { none = λ s. refl; more = λ s e es. omega arith })
 
   -- ---- the row of the 25 pairs of levels: every event that takes a holder's circuit falls at its own level and the holder's
-  abbrev takes : S → List ℕ → Bool
+  abbrev pub takes : S → List ℕ → Bool
   takes s e = answered L s e .call .present
 
-  abbrev levels : S → List ℕ → ℕ
+  abbrev pub levels : S → List ℕ → ℕ
   levels s e = 5 * L .event e .mark .level .0 + answered L s e .call .mark .level .0
 
-  by-levels : (s : S) (e : List ℕ) (i : ℕ) → i < 25 → shares (L .event e) (answered L s e) (6 + i) ≡ at (levels s e) (one (takes s e)) i
+  pub by-levels : (s : S) (e : List ℕ) (i : ℕ) → i < 25 → shares (L .event e) (answered L s e) (6 + i) ≡ at (levels s e) (one (takes s e)) i
   by-levels s e =
       let a = answered L s e in
       adds-by-level (L .event e .kind) (L .event e .mark .level .0) (a .number) (a .call .present) (a .call .mark .level .0)
