@@ -24,7 +24,7 @@ use Rattle.claims.proofs.Carried.{carried-out}
 use Rattle.claims.proofs.Added.{not-done, not-added, list-done, figures-done, had-room, many-totals, total-added}
 
 -- what totals are after n lists that were added
-pub record After (f : List ℕ) (n : ℕ) : Type 0 where
+record After (f : List ℕ) (n : ℕ) : Type 0 where
   pub many : length f ≡ place.figures
   pub counted : total f place.lists ≡ n
   pub most : n ≤ mostLists

@@ -14,7 +14,7 @@ use Rattle.route.specs.Entries.{eventsIn}
 use Rattle.tally.specs.Places as place
 use Rattle.tally.specs.Shares.{holders, eventsAdd}
 use Rattle.tally.specs.Entry.{isAdded, figuresTotals}
-use Rattle.tally.proofs.Placed.{adds-seized, adds-released, adds-lost}
+use Rattle.tally.proofs.Placed.{shares-seized, shares-released, shares-lost}
 use Rattle.tally.proofs.Lists.{list-start, list-end}
 use Rattle.claims.specs.Lists.{EventList}
 use Rattle.claims.specs.Figures.{total, noFigures, Closes, TableList, addList, totalsAfter, FiguresClose, Figured, figured, figuredAfter, OneRoute}
@@ -28,9 +28,9 @@ module _ {S : Type 0} (L : Layout S) (W : Lawful L) where
   events-close (e ∷ es) s =
       let ev = L .event e in
       let a = answered L s e in
-      let seized = adds-seized (ev .kind) (ev .mark .level .0) (a .number) (a .call .present) (a .call .mark .level .0) in
-      let released = adds-released (ev .kind) (ev .mark .level .0) (a .number) (a .call .present) (a .call .mark .level .0) in
-      let lost = adds-lost (ev .kind) (ev .mark .level .0) (a .number) (a .call .present) (a .call .mark .level .0) in
+      let seized = shares-seized ev a in
+      let released = shares-released ev a in
+      let lost = shares-lost ev a in
       omega (arith, event-closes L W s e, events-close es (after L s e))
 
 -- ---- a list over 01's records that is added to totals f

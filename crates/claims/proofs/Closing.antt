@@ -3,7 +3,7 @@
 use Prim.Native.Nat.{ℕ, zero, suc, _+_, _<_, _≤_}
 use mathlib.Core.Path.{_≡_, refl, sym, ap, _∙_}
 use mathlib.Core.Logic.{_≢_}
-use mathlib.Core.Bool.{Bool, false, cond, _&&_, _||_}
+use mathlib.Core.Bool.{Bool, false, cond, _&&_, _||_, and-false}
 use mathlib.Core.List.{List}
 use native.Mathlib.Nat.{not-suc-le-zero}
 use native.Mathlib.Omega.{arith}
@@ -83,7 +83,7 @@ module _ (x y : ℕ → Circuit) (n : ℕ) (e : Event) where
   closed (Refuse r) h q =
       let k = refusalNumber r in
       let high = refusal-high r in
-      let none : one (isSeizure (e .kind) k) ≡ 0 = ap (λ (b : Bool). one (eqb (e .kind) 1 && b)) (λ d. ne-eqb k 1 (λ z. omega arith) d || ne-eqb k 2 (λ z. omega arith) d) ∙ by-so (eqb (e .kind) 1) (λ t. ap (λ (b : Bool). one (b && false)) t) (λ t. ap (λ (b : Bool). one (b && false)) t) in
+      let none : one (isSeizure (e .kind) k) ≡ 0 = ap (λ (b : Bool). one (eqb (e .kind) 1 && b)) (λ d. ne-eqb k 1 (λ z. omega arith) d || ne-eqb k 2 (λ z. omega arith) d) ∙ ap one (and-false (eqb (e .kind) 1)) in
       let not-released = ap one (ne-eqb k 5 (λ z. omega arith)) in
       omega (arith, unmoved (Refuse r) q (λ c. refl))
   closed (Do Seize i) h q =

@@ -13,7 +13,7 @@ use Rattle.route.specs.Entries.{eventsIn}
 use Rattle.tally.specs.Places as place
 use Rattle.tally.specs.Shares.{at, one, shares, eventsAdd}
 use Rattle.tally.specs.Entry.{isAdded, figuresTotals}
-use Rattle.tally.proofs.Placed.{at-off, at-le, adds-lost, adds-by-level, adds-answered}
+use Rattle.tally.proofs.Placed.{at-off, at-le, shares-lost, shares-by-level, shares-answered}
 use Rattle.tally.proofs.Levels.{lost-levels}
 use Rattle.tally.proofs.Numbers.{number-below}
 use Rattle.tally.proofs.Shared.{events-none, level-place}
@@ -34,13 +34,10 @@ module _ {S : Type 0} (L : Layout S) where
   falls-by-number =
       record {
         within = λ s e h. number-below L s e;
-        there =
-            λ s e i l.
-            let a = answered L s e in
-            adds-answered (L .event e .kind) (L .event e .mark .level .0) (a .number) (a .call .present) (a .call .mark .level .0) (level-place L s e) i;
+        there = λ s e i l. shares-answered (L .event e) (answered L s e) (level-place L s e) i;
       }
 
-  pub numbers-once : (es : List (List ℕ)) (s : S) → sumTo (λ k. eventsAdd L s es (31 + k)) 64 ≡ length es
+  numbers-once : (es : List (List ℕ)) (s : S) → sumTo (λ k. eventsAdd L s es (31 + k)) 64 ≡ length es
   numbers-once =
       each-falls-once L 31 64 every number falls-by-number (λ s es. length es) (record { none = λ s. refl; more = λ s e es. omega arith })
 
@@ -52,9 +49,7 @@ module _ {S : Type 0} (L : Layout S) where
   levels s e = 5 * L .event e .mark .level .0 + answered L s e .call .mark .level .0
 
   pub by-levels : (s : S) (e : List ℕ) (i : ℕ) → i < 25 → shares (L .event e) (answered L s e) (6 + i) ≡ at (levels s e) (one (takes s e)) i
-  by-levels s e =
-      let a = answered L s e in
-      adds-by-level (L .event e .kind) (L .event e .mark .level .0) (a .number) (a .call .present) (a .call .mark .level .0)
+  by-levels s e = shares-by-level (L .event e) (answered L s e)
 
   falls-by-levels : Falls L 6 25 takes levels
   falls-by-levels = record { within = λ s e h. let t = lost-levels L s e h in omega (arith, t .taker-level, t .loser-level); there = by-levels }
@@ -63,13 +58,10 @@ module _ {S : Type 0} (L : Layout S) where
   losses =
       record {
         none = λ s. refl;
-        more =
-            λ s e es.
-            let a = answered L s e in
-            omega (arith, adds-lost (L .event e .kind) (L .event e .mark .level .0) (a .number) (a .call .present) (a .call .mark .level .0));
+        more = λ s e es. omega (arith, shares-lost (L .event e) (answered L s e));
       }
 
-  pub losses-once : (es : List (List ℕ)) (s : S) → sumTo (λ k. eventsAdd L s es (6 + k)) 25 ≡ eventsAdd L s es place.lost
+  losses-once : (es : List (List ℕ)) (s : S) → sumTo (λ k. eventsAdd L s es (6 + k)) 25 ≡ eventsAdd L s es place.lost
   losses-once = each-falls-once L 6 25 takes levels falls-by-levels (λ s es. eventsAdd L s es place.lost) losses
 
   -- none falls where the loser is not strictly lower than the taker
@@ -84,7 +76,7 @@ module _ {S : Type 0} (L : Layout S) where
         omega (arith, by-levels s e i (omega arith), at-off (levels s e) n i (λ z. omega (arith, k .taker-level, k .loser-level, k .higher))))
         (λ h. let none = ap one h in omega (arith, by-levels s e i (omega arith), at-le (levels s e) n i))
 
-    pub not-higher : (es : List (List ℕ)) (s : S) → eventsAdd L s es (6 + (5 * taker + loser)) ≡ 0
+    not-higher : (es : List (List ℕ)) (s : S) → eventsAdd L s es (6 + (5 * taker + loser)) ≡ 0
     not-higher = events-none L (6 + (5 * taker + loser)) never-there
 
 -- ---- over 01's records, a list that is added to totals f

@@ -14,7 +14,7 @@ use Rattle.rules.proofs.Kept.{count-run}
 use Rattle.route.specs.Entries.{eventsTo, eventsIn}
 use Rattle.tally.specs.Places as place
 use Rattle.tally.specs.Shares.{at, holders, eventsAdd, listAdds}
-use Rattle.tally.proofs.Placed.{at-off, at-most, adds-none}
+use Rattle.tally.proofs.Placed.{at-off, at-most, shares-none}
 use Rattle.tally.proofs.Shared.{events-none, events-most}
 
 -- as many events as there are
@@ -35,7 +35,7 @@ module _ {S : Type 0} (L : Layout S) where
     -- events count at none of the places of a list itself
     none : (j : ℕ) → j < 6 → j ≢ place.seized → j ≢ place.released → j ≢ place.lost → eventsAdd L s es j ≡ 0
     none j l x y z =
-        events-none L j (λ s e. let a = answered L s e in adds-none (L .event e .kind) (L .event e .mark .level .0) (a .number) (a .call .present) (a .call .mark .level .0) j l x y z) es s
+        events-none L j (λ s e. shares-none (L .event e) (answered L s e) j l x y z) es s
 
     none-lists : eventsAdd L s es place.lists ≡ 0
     none-lists = none place.lists (omega arith) (λ z. omega arith) (λ z. omega arith) (λ z. omega arith)

@@ -6,8 +6,10 @@ use mathlib.Core.Bool.{Bool, true, false, cond}
 use native.Mathlib.Omega.{arith}
 use borrow.Author.Tests.{eq-eqb, ne-eqb}
 use Rattle.octets.proofs.Tests.{by-eq, by-so}
+use Rattle.rules.specs.declared.event.Event.{Event}
+use Rattle.rules.specs.declared.answer.Answer.{Answer}
 use Rattle.tally.specs.Places as place
-use Rattle.tally.specs.Shares.{at, one, isSeizure, isRelease, adds}
+use Rattle.tally.specs.Shares.{at, one, isSeizure, isRelease, adds, shares}
 
 pub at-on : (p n j : ℕ) → p ≡ j → at p n j ≡ n
 at-on p n j h = ap (λ (b : Bool). cond b n 0) (eq-eqb p j h)
@@ -32,12 +34,22 @@ pub at-most : (p n m : ℕ) (g : ℕ → ℕ) → n + g p ≤ m → ((j : ℕ) �
 at-most p n m g here elsewhere j =
     by-eq p j (λ z. let a = at-on p n j z in let b = ap g z in omega arith) (λ z. omega (arith, at-off p n j z, elsewhere j))
 
-module _ (kind taker k : ℕ) (lost : Bool) (loser : ℕ) where
-  abbrev a : ℕ → ℕ  -- what the event adds to total j
-  a = adds kind taker k lost loser
+-- ---- event e, answered by a
+module _ (e : Event) (a : Answer) where
+  abbrev kind : ℕ
+  kind = e .kind
 
-  abbrev p : ℕ  -- the place of the two levels
-  p = place.lostByLevel taker loser
+  abbrev k : ℕ  -- the number of its answer
+  k = a .number
+
+  abbrev lost : Bool  -- whether a holder was lost by it
+  lost = a .call .present
+
+  abbrev levels : ℕ  -- the place of the two levels among the 25
+  levels = 5 * e .mark .level .0 + a .call .mark .level .0
+
+  abbrev p : ℕ  -- the place of the two levels among all
+  p = place.lostByLevel (e .mark .level .0) (a .call .mark .level .0)
 
   -- nothing of the two levels or of the number falls below place 6
   module _ (j : ℕ) (l : j < 6) where
@@ -47,33 +59,33 @@ module _ (kind taker k : ℕ) (lost : Bool) (loser : ℕ) where
     off-number : at (place.answered k) 1 j ≡ 0
     off-number = at-off (place.answered k) 1 j (λ z. omega arith)
 
-  pub adds-seized : a place.seized ≡ one (isSeizure kind k)
+  pub shares-seized : shares e a place.seized ≡ one (isSeizure kind k)
   unfolding adds
-  adds-seized = omega (arith, off-level 2 (omega arith), off-number 2 (omega arith))
+  shares-seized = omega (arith, off-level 2 (omega arith), off-number 2 (omega arith))
 
-  pub adds-released : a place.released ≡ one (isRelease k)
+  pub shares-released : shares e a place.released ≡ one (isRelease k)
   unfolding adds
-  adds-released = omega (arith, off-level 3 (omega arith), off-number 3 (omega arith))
+  shares-released = omega (arith, off-level 3 (omega arith), off-number 3 (omega arith))
 
-  pub adds-lost : a place.lost ≡ one lost
+  pub shares-lost : shares e a place.lost ≡ one lost
   unfolding adds
-  adds-lost = omega (arith, off-level 4 (omega arith), off-number 4 (omega arith))
+  shares-lost = omega (arith, off-level 4 (omega arith), off-number 4 (omega arith))
 
   -- of the first six places, seizures, releases and lost holders have one each
-  pub adds-none : (j : ℕ) → j < 6 → j ≢ place.seized → j ≢ place.released → j ≢ place.lost → a j ≡ 0
+  pub shares-none : (j : ℕ) → j < 6 → j ≢ place.seized → j ≢ place.released → j ≢ place.lost → shares e a j ≡ 0
   unfolding adds
-  adds-none j l x y z =
+  shares-none j l x y z =
       omega (arith, at-off 2 (one (isSeizure kind k)) j (λ w. x (sym w)), at-off 3 (one (isRelease k)) j (λ w. y (sym w)), at-off 4 (one lost) j (λ w. z (sym w)), off-level j l, off-number j l)
 
   -- from place 6 on there are the two levels and the number
-  from-six : (j : ℕ) → 6 ≤ j → a j ≡ at p (one lost) j + at (place.answered k) 1 j
+  from-six : (j : ℕ) → 6 ≤ j → shares e a j ≡ at p (one lost) j + at (place.answered k) 1 j
   unfolding adds
   from-six j l =
       omega (arith, at-off 2 (one (isSeizure kind k)) j (λ z. omega arith), at-off 3 (one (isRelease k)) j (λ z. omega arith), at-off 4 (one lost) j (λ z. omega arith))
 
-  pub adds-by-level : (i : ℕ) → i < 25 → a (6 + i) ≡ at (5 * taker + loser) (one lost) i
-  adds-by-level i l =
-      omega (arith, from-six (6 + i) (omega arith), at-off (place.answered k) 1 (6 + i) (λ z. omega arith), at-shifted 6 (5 * taker + loser) p (one lost) i (omega arith))
+  pub shares-by-level : (i : ℕ) → i < 25 → shares e a (6 + i) ≡ at levels (one lost) i
+  shares-by-level i l =
+      omega (arith, from-six (6 + i) (omega arith), at-off (place.answered k) 1 (6 + i) (λ z. omega arith), at-shifted 6 levels p (one lost) i (omega arith))
 
   -- where a holder is lost, the place of the two levels stands before those of the numbers
   module _ (within : lost ≡ true → p < 31) where
@@ -82,14 +94,14 @@ module _ (kind taker k : ℕ) (lost : Bool) (loser : ℕ) where
         by-so lost (λ t. at-off p (one lost) j (λ z. omega (arith, within t)))
         (λ t. let none = ap one t in omega (arith, at-le p (one lost) j))
 
-    pub adds-answered : (i : ℕ) → a (31 + i) ≡ at k 1 i
-    adds-answered i =
+    pub shares-answered : (i : ℕ) → shares e a (31 + i) ≡ at k 1 i
+    shares-answered i =
         omega (arith, from-six (31 + i) (omega arith), level-off (31 + i) (omega arith), at-shifted 31 k (place.answered k) 1 i refl)
 
     -- an event adds at most 1 at each place: each test has a place of its own
-    pub adds-most : (j : ℕ) → a j ≤ 1
+    pub shares-most : (j : ℕ) → shares e a j ≤ 1
     unfolding adds
-    adds-most j =
+    shares-most j =
         let g = at (place.answered k) 1 in
         let h : ℕ → ℕ = λ j. at p (one lost) j + g j in
         let number : (j : ℕ) → g j ≤ 1 = at-le (place.answered k) 1 in

@@ -9,7 +9,7 @@ use Rattle.rules.specs.Layout.{Layout}
 use Rattle.rules.specs.Run.{after, answered, run}
 use Rattle.tally.specs.Places as place
 use Rattle.tally.specs.Shares.{shares, eventsAdd}
-use Rattle.tally.proofs.Placed.{adds-most}
+use Rattle.tally.proofs.Placed.{shares-most}
 use Rattle.tally.proofs.Levels.{lost-levels}
 
 module _ {S : Type 0} (L : Layout S) where
@@ -27,11 +27,9 @@ module _ {S : Type 0} (L : Layout S) where
   pub level-place : (s : S) (e : List ℕ) → let a = answered L s e in a .call .present ≡ true → place.lostByLevel (L .event e .mark .level .0) (a .call .mark .level .0) < 31
   level-place s e h = let t = lost-levels L s e h in omega (arith, t .taker-level, t .loser-level)
 
-  pub shares-most : (s : S) (e : List ℕ) (j : ℕ) → shares (L .event e) (answered L s e) j ≤ 1
-  shares-most s e =
-      let a = answered L s e in
-      adds-most (L .event e .kind) (L .event e .mark .level .0) (a .number) (a .call .present) (a .call .mark .level .0) (level-place s e)
+  pub event-most : (s : S) (e : List ℕ) (j : ℕ) → shares (L .event e) (answered L s e) j ≤ 1
+  event-most s e = shares-most (L .event e) (answered L s e) (level-place s e)
 
   pub events-most : (es : List (List ℕ)) (s : S) (j : ℕ) → eventsAdd L s es j ≤ length es
   events-most [] s j = omega arith
-  events-most (e ∷ es) s j = omega (arith, shares-most s e j, events-most es (after L s e) j)
+  events-most (e ∷ es) s j = omega (arith, event-most s e j, events-most es (after L s e) j)
