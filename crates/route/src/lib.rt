@@ -15,14 +15,15 @@ ghost use Rattle.rules.specs.Run.{after, answered, answerRecord, run, answerRec
 ghost use Rattle.rules.specs.Records.{circuits, mostCircuits, tableLength, eventSize, eventIn, answerSize, listLength, records};
 ghost use Rattle.route.specs.Entries.{eventNumber, eventTable, eventAnswer, eventsTo, listNumber, listTable, listAnswers};
 
-// Applies event k to a table, and writes its answer as answer k; `intact` says whether the table is valid. The answer names the losers,
-// so it is made of the table as it was; each step reads the circuit that it needs anew, since the compiler then keeps none in memory.
-fn apply(t: &mut [u8], es: &[u8], answers: &mut [u8], k: usize, intact: bool) -> u8
+// Applies event k to a table, writes its answer as answer k, and gives the level under which a holder that it lost stood, since no answer
+// has that; `intact` says whether the table is valid. The answer names the losers, so it is made of the table as it was; each step reads
+// the circuit that it needs anew, since the compiler then keeps none in memory.
+pub fn apply(t: &mut [u8], es: &[u8], answers: &mut [u8], k: usize, intact: bool) -> u8
     requires { ⌜ circuits (now t) ≤ mostCircuits ⌝ }
     requires { ⌜ eventSize * k + eventSize ≤ length (now es) ⌝ }
     requires { ⌜ answerSize * k + answerSize ≤ length (now answers) ⌝ }
     requires { ⌜ intact ≡ valid records (now t) ⌝ }
-    ensures number { λ r. ⌜ r ≡ answered records (now (t .entry)) (eventIn (now (es .entry)) k) .number ⌝ }
+    ensures level { λ r. ⌜ r ≡ answered records (now (t .entry)) (eventIn (now (es .entry)) k) .call .mark .level .0 ⌝ }
     ensures table { λ _. ⌜ now (t .exit) ≡ after records (now (t .entry)) (eventIn (now (es .entry)) k) ⌝ }
     ensures answers { λ _. ⌜ now (answers .exit)
         ≡ put (now (answers .entry)) (answerSize * k) (answerRecord records (now (t .entry)) (eventIn (now (es .entry)) k)) ⌝ }
@@ -32,7 +33,7 @@ fn apply(t: &mut [u8], es: &[u8], answers: &mut [u8], k: usize, intact: bool) ->
     let answer = answer::answered(t, e, outcome);
     effect::effect(t, e, outcome);
     events::write(answers, k, answer);
-    answer.number
+    answer.call.mark.level.0
 }
 
 // Tells whether the lengths of a table, an event and its answer are right.
@@ -58,11 +59,12 @@ pub fn event(t: &mut [u8], e: &[u8], a: &mut [u8]) -> u8
         return number::WRONG_LENGTH;
     }
     let intact = validity::valid(t);
-    apply(t, e, a, 0, intact)
+    apply(t, e, a, 0, intact);
+    events::number(events::answer_at(a, 0))
 }
 
 // Tells whether the lengths of a table, its events and their answer places are right.
-fn list_lengths(t: usize, es: usize, places: usize) -> bool
+pub fn list_lengths(t: usize, es: usize, places: usize) -> bool
     ensures { λ r. ⌜ r ≡ tableLength t && listLength es places ⌝ }
 {
     let n = es / EVENT_SIZE;

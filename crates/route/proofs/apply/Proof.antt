@@ -18,7 +18,7 @@ returns c =
     let a = read .before .before .before .before .args in
     let t = now (a .t) in
     let o = eventIn (now (a .es)) (a .k) in (
-      ap (λ (r : Answer). r .number) (applied-answer t o (read .read .ensures) (decided .outcome-of .ensures .0) (answered .answered .ensures)),
+      ap (λ (r : Answer). r .call .mark .level .0) (applied-answer t o (read .read .ensures) (decided .outcome-of .ensures .0) (answered .answered .ensures)),
       (
         applied-table t o (read .read .ensures) (decided .outcome-of .ensures .0) (done .effect .ensures),
         applied-octets t o (read .read .ensures) (decided .outcome-of .ensures .0) (answered .answered .ensures) (now (a .answers)) (answerSize * a .k) (c .before .before .write .ensures),
