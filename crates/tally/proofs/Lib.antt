@@ -1,6 +1,12 @@
-pub mod Added
 pub mod Placed
+pub mod Added
+pub mod Rooms
+pub mod Counted
 pub mod Levels
 pub mod Numbers
 pub mod Shared
 pub mod Lists
+pub mod Told
+pub mod Tallied
+pub mod Whole
+pub mod Determined

@@ -18,13 +18,13 @@ use Rattle.tally.proofs.Placed.{at-off, at-most, shares-none}
 use Rattle.tally.proofs.Shared.{events-none, events-most}
 
 -- as many events as there are
+pub length-events-to : (es : List ℕ) (n : ℕ) → length (eventsTo es n) ≡ n
+length-events-to es zero = refl
+length-events-to es (suc n) = length-append (eventsTo es n) (eventIn es n ∷ []) ∙ omega (arith, length-events-to es n)
+
 pub length-events : (es : List ℕ) → length (eventsIn es) ≡ length es / eventSize
 unfolding eventsIn
-length-events es = go (length es / eventSize)
-  where
-    go : (n : ℕ) → length (eventsTo es n) ≡ n
-    go zero = refl
-    go (suc n) = length-append (eventsTo es n) (eventIn es n ∷ []) ∙ omega (arith, go n)
+length-events es = length-events-to es (length es / eventSize)
 
 module _ {S : Type 0} (L : Layout S) where
   pub holders-most : (s : S) → holders L s ≤ L .count s
@@ -37,13 +37,13 @@ module _ {S : Type 0} (L : Layout S) where
     none j l x y z =
         events-none L j (λ s e. shares-none (L .event e) (answered L s e) j l x y z) es s
 
-    none-lists : eventsAdd L s es place.lists ≡ 0
+    pub none-lists : eventsAdd L s es place.lists ≡ 0
     none-lists = none place.lists (omega arith) (λ z. omega arith) (λ z. omega arith) (λ z. omega arith)
 
-    none-start : eventsAdd L s es place.start ≡ 0
+    pub none-start : eventsAdd L s es place.start ≡ 0
     none-start = none place.start (omega arith) (λ z. omega arith) (λ z. omega arith) (λ z. omega arith)
 
-    none-end : eventsAdd L s es place.end ≡ 0
+    pub none-end : eventsAdd L s es place.end ≡ 0
     none-end = none place.end (omega arith) (λ z. omega arith) (λ z. omega arith) (λ z. omega arith)
 
     pub list-lists : listAdds L s es place.lists ≡ 1

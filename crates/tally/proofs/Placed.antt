@@ -21,7 +21,7 @@ pub at-le : (p n j : ℕ) → at p n j ≤ n
 at-le p n j = by-eq p j (λ z. omega (arith, at-on p n j z)) (λ z. omega (arith, at-off p n j z))
 
 -- the same, o places further on
-at-shifted : (o p q n j : ℕ) → q ≡ o + p → at q n (o + j) ≡ at p n j
+pub at-shifted : (o p q n j : ℕ) → q ≡ o + p → at q n (o + j) ≡ at p n j
 at-shifted o p q n j h =
     by-eq p j (λ z. at-on q n (o + j) (omega arith) ∙ sym (at-on p n j z)) (λ z. at-off q n (o + j) (λ w. z (omega arith)) ∙ sym (at-off p n j z))
 

@@ -1,4 +1,5 @@
 pub mod Places
 pub mod Shares
 pub mod Entry
+pub mod Room
 pub mod Vectors
