@@ -18,6 +18,8 @@ use Rattle.naustvri.proofs.naustvri_event.Kinds as event-kinds
 use Rattle.naustvri.proofs.naustvri_event.Reads as event
 use Rattle.naustvri.proofs.naustvri_list.Kinds as list-kinds
 use Rattle.naustvri.proofs.naustvri_list.Reads as list
+use Rattle.naustvri.proofs.naustvri_figures.Kinds as figures-kinds
+use Rattle.naustvri.proofs.naustvri_figures.Reads as figures
 use Rattle.naustvri.proofs.naustvri_lamps.Kinds as lamps-kinds
 use Rattle.naustvri.proofs.naustvri_lamps.Reads as lamps
 
@@ -62,6 +64,18 @@ list-table κs a x y e f p q = p .1 .0 ∙ sym (q .1 .0)
 
 pub list-answers : OneExit 3 list-kinds.ps list-kinds.r list.Post (λ κs e. now (e .1 .1 .0))
 list-answers κs a x y e f p q = p .1 .1 ∙ sym (q .1 .1)
+
+pub figures-result : OneResult 4 figures-kinds.ps figures-kinds.r figures.Post
+figures-result κs a x y e f p q = p .0 ∙ sym (q .0)
+
+pub figures-table : OneExit 4 figures-kinds.ps figures-kinds.r figures.Post (λ κs e. now (e .0))
+figures-table κs a x y e f p q = p .1 .0 ∙ sym (q .1 .0)
+
+pub figures-answers : OneExit 4 figures-kinds.ps figures-kinds.r figures.Post (λ κs e. now (e .1 .1 .0))
+figures-answers κs a x y e f p q = p .1 .1 .0 ∙ sym (q .1 .1 .0)
+
+pub figures-totals : OneExit 4 figures-kinds.ps figures-kinds.r figures.Post (λ κs e. now (e .1 .1 .1 .0))
+figures-totals κs a x y e f p q = p .1 .1 .1 ∙ sym (q .1 .1 .1)
 
 pub lamps-result : OneResult 1 lamps-kinds.ps lamps-kinds.r lamps.Post
 lamps-result κs a x y e f p q = p ∙ sym q

@@ -5,12 +5,13 @@ ghost use Rattle.fields.specs.Precedence as precedence;
 ghost use Rattle.fields.specs.Reference as reference;
 ghost use Rattle.lamps.specs.Lamps.{lampMap};
 ghost use Rattle.route.specs.Entries.{eventNumber, eventTable, eventAnswer, listNumber, listTable, listAnswers};
+ghost use Rattle.tally.specs.Entry.{figuresNumber, figuresTable, figuresAnswers, figuresTotals};
 ghost use Rattle.naustvri.specs.Version.{version};
 
 // The version has these three parts, as in the header.
 const MAJOR: u32 = 1;
 
-const MINOR: u32 = 0;
+const MINOR: u32 = 1;
 
 const PATCH: u32 = 0;
 
@@ -80,6 +81,24 @@ pub extern "C" fn naustvri_list(table: &mut [u8], events: &[u8], answers: &mut [
     ensures answers { λ _. ⌜ now (answers .exit) ≡ listAnswers (now (table .entry)) (now (events .entry)) (now (answers .entry)) ⌝ }
 {
     route::list(table, events, answers)
+}
+
+#[no_mangle]
+pub extern "C" fn naustvri_figures(
+    table: &mut [u8],
+    events: &[u8],
+    answers: &mut [u8],
+    figures: &mut [u64],
+) -> u8
+    ensures number { λ r. ⌜ r ≡ figuresNumber (now (table .entry)) (now (events .entry)) (now (answers .entry)) (now (figures .entry)) ⌝ }
+    ensures table { λ _. ⌜ now (table .exit)
+        ≡ figuresTable (now (table .entry)) (now (events .entry)) (now (answers .entry)) (now (figures .entry)) ⌝ }
+    ensures answers { λ _. ⌜ now (answers .exit)
+        ≡ figuresAnswers (now (table .entry)) (now (events .entry)) (now (answers .entry)) (now (figures .entry)) ⌝ }
+    ensures figures { λ _. ⌜ now (figures .exit)
+        ≡ figuresTotals (now (table .entry)) (now (events .entry)) (now (answers .entry)) (now (figures .entry)) ⌝ }
+{
+    tally::list(table, events, answers, figures)
 }
 
 #[no_mangle]
