@@ -15,7 +15,7 @@ use Rattle.tally.specs.Shares.{at, one, shares, eventsAdd}
 use Rattle.tally.specs.Entry.{isAdded, figuresTotals}
 use Rattle.tally.proofs.Placed.{at-off, at-le, shares-lost, shares-by-level, shares-answered}
 use Rattle.tally.proofs.Levels.{lost-levels}
-use Rattle.tally.proofs.Numbers.{number-below}
+use Rattle.route.proofs.Numbers.{number-below}
 use Rattle.tally.proofs.Shared.{events-none, level-place}
 use Rattle.tally.proofs.Lists.{length-events}
 use Rattle.claims.specs.Figures.{total, sumTo, EachOnce, LostOnce}

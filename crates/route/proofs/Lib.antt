@@ -1,3 +1,4 @@
+pub mod Numbers
 pub mod Applied
 pub mod Listed
 pub mod Whole

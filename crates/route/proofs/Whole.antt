@@ -12,7 +12,7 @@ use Rattle.octets.proofs.Tests.{and-left, and-right}
 use Rattle.octets.proofs.Spans.{span-all, put-whole}
 use Rattle.rules.specs.Numbers.{wrongLength}
 use Rattle.rules.specs.Run.{after, answered, answerRecord, run, answerRecords}
-use Rattle.rules.specs.Records.{records, tableLength, listLength, circuits, circuitSize, mostCircuits, eventSize, mostEvents, answerSize, eventIn, answerIn, answerNumber}
+use Rattle.rules.specs.Records.{records, tableLength, listLength, circuits, circuitSize, mostCircuits, eventSize, mostEvents, answerSize, eventIn}
 use Rattle.route.specs.Entries.{eventLengths, eventNumber, eventTable, eventAnswer, eventsTo, eventsIn, listLengths, listNumber, listTable, listAnswers}
 use Rattle.route.proofs.Listed.{length-answer, answers-length}
 
@@ -49,14 +49,16 @@ module _ (t e a : List ℕ) where
     all : eventIn e 0 ≡ e
     all = span-all e eventSize (event-facts .1)
 
-    -- the event's octets were read from place 0 on, and the answer's written there; the number is octet 0 of that
-    pub an-event : {r : ℕ} {u b : List ℕ} → r ≡ answerNumber (answerIn b 0) → u ≡ after records t (eventIn e 0) → b ≡ put a 0 (answerRecord records t (eventIn e 0)) → (r ≡ eventNumber t e a) × ((u ≡ eventTable t e a) × (b ≡ eventAnswer t e a))
-    unfolding eventNumber eventTable eventAnswer answerRecord records
-    an-event p q s =
-        let answer = s ∙ put-whole a (answerRecord records t (eventIn e 0)) (length-answer t (eventIn e 0) ∙ sym (event-facts .2)) ∙ ap (answerRecord records t) all in (
-          when _ _ right (p ∙ ap (λ (o : List ℕ). answerNumber (answerIn o 0)) answer),
-          (when _ _ right (q ∙ ap (after records t) all), when _ _ right answer),
-        )
+    -- the event's octets were read from place 0 on, and the answer's written there
+    pub an-event : {r : ℕ} {u b : List ℕ} → r ≡ answered records t (eventIn e 0) .number → u ≡ after records t (eventIn e 0) → b ≡ put a 0 (answerRecord records t (eventIn e 0)) → (r ≡ eventNumber t e a) × ((u ≡ eventTable t e a) × (b ≡ eventAnswer t e a))
+    unfolding eventNumber eventTable eventAnswer
+    an-event p q s = (
+      when _ _ right (p ∙ ap (λ (o : List ℕ). answered records t o .number) all),
+      (
+        when _ _ right (q ∙ ap (after records t) all),
+        when _ _ right (s ∙ put-whole a (answerRecord records t (eventIn e 0)) (length-answer t (eventIn e 0) ∙ sym (event-facts .2)) ∙ ap (answerRecord records t) all),
+      ),
+    )
 
 module _ (t es places : List ℕ) where
   module _ (wrong : listLengths t es places ≡ false) where

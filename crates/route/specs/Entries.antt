@@ -1,13 +1,18 @@
 -- This is 01, "Numbers given back": what one event, or a list, gives back and leaves in table and answers. At 20 no buffer is written.
-use Prim.Native.Nat.{ℕ, zero, suc, _*_, _/_}
+use Prim.Native.Nat.{ℕ, zero, suc, _+_, _*_, _/_}
 use mathlib.Core.Bool.{Bool, cond, _&&_}
 use mathlib.Core.List.{List, [], _∷_, _++_, flatten}
 use lib.ListN.{length}
 use lib.Dec.{eqb}
 use Rattle.octets.specs.Span.{span}
+use Rattle.rules.specs.declared.answer.Answer.{Answer}
 use Rattle.rules.specs.Numbers.{done, wrongLength}
 use Rattle.rules.specs.Run.{after, answered, answerRecord, run, answerRecords}
 use Rattle.rules.specs.Records.{records, tableLength, eventSize, eventIn, answerSize, listLength}
+
+-- what an event that was applied tells beside its answer's octets: the number, and 256 times the level under which a lost holder stood
+abbrev pub told : Answer → ℕ
+told a = 256 * a .call .mark .level .0 + a .number
 
 -- ---- one event: table t, event e, answer a
 -- the lengths are those of a table, of one event and of one answer

@@ -6,24 +6,25 @@ use rules::number;
 ghost use mathlib.Core.Path.{_≡_};
 ghost use mathlib.Core.Bool.{_&&_};
 ghost use mathlib.Core.List.{flatten};
-ghost use Prim.Native.Nat.{_+_, _*_, _/_, _≤_};
+ghost use Prim.Native.Nat.{_+_, _*_, _/_, _%_, _≤_};
 ghost use lib.ListN.{length};
 ghost use lib.Dec.{eqb};
 ghost use Rattle.octets.specs.Span.{put};
 ghost use Rattle.rules.specs.Valid.{valid};
 ghost use Rattle.rules.specs.Run.{after, answered, answerRecord, run, answerRecords};
 ghost use Rattle.rules.specs.Records.{circuits, mostCircuits, tableLength, eventSize, eventIn, answerSize, listLength, records};
-ghost use Rattle.route.specs.Entries.{eventNumber, eventTable, eventAnswer, eventsTo, listNumber, listTable, listAnswers};
+ghost use Rattle.route.specs.Entries.{told, eventNumber, eventTable, eventAnswer, eventsTo, listNumber, listTable, listAnswers};
 
-// Applies event k to a table, writes its answer as answer k, and gives the level under which a holder that it lost stood, since no answer
-// has that; `intact` says whether the table is valid. The answer names the losers, so it is made of the table as it was; each step reads
-// the circuit that it needs anew, since the compiler then keeps none in memory.
-pub fn apply(t: &mut [u8], es: &[u8], answers: &mut [u8], k: usize, intact: bool) -> u8
+// Applies event k to a table, writes its answer as answer k, and tells the number of the answer and the level under which a holder that it
+// lost stood, which no answer has; `intact` says whether the table is valid. The answer names the losers, so it is made of the table as it
+// was; each step reads the circuit that it needs anew, since the compiler then keeps none in memory. What is told is one number, since the
+// compiler gives a struct back through memory, which costs a list far more.
+pub fn apply(t: &mut [u8], es: &[u8], answers: &mut [u8], k: usize, intact: bool) -> u16
     requires { ⌜ circuits (now t) ≤ mostCircuits ⌝ }
     requires { ⌜ eventSize * k + eventSize ≤ length (now es) ⌝ }
     requires { ⌜ answerSize * k + answerSize ≤ length (now answers) ⌝ }
     requires { ⌜ intact ≡ valid records (now t) ⌝ }
-    ensures level { λ r. ⌜ r ≡ answered records (now (t .entry)) (eventIn (now (es .entry)) k) .call .mark .level .0 ⌝ }
+    ensures told { λ r. ⌜ r ≡ told (answered records (now (t .entry)) (eventIn (now (es .entry)) k)) ⌝ }
     ensures table { λ _. ⌜ now (t .exit) ≡ after records (now (t .entry)) (eventIn (now (es .entry)) k) ⌝ }
     ensures answers { λ _. ⌜ now (answers .exit)
         ≡ put (now (answers .entry)) (answerSize * k) (answerRecord records (now (t .entry)) (eventIn (now (es .entry)) k)) ⌝ }
@@ -33,7 +34,21 @@ pub fn apply(t: &mut [u8], es: &[u8], answers: &mut [u8], k: usize, intact: bool
     let answer = answer::answered(t, e, outcome);
     effect::effect(t, e, outcome);
     events::write(answers, k, answer);
-    answer.call.mark.level.0
+    256 * answer.call.mark.level.0 as u16 + answer.number as u16
+}
+
+// Gives the number of the answer in what was told.
+pub fn number_told(told: u16) -> u8
+    ensures { λ r. ⌜ r ≡ told % 256 ⌝ }
+{
+    (told % 256) as u8
+}
+
+// Gives the loser's level in what was told.
+pub fn level_told(told: u16) -> u8
+    ensures { λ r. ⌜ r ≡ told / 256 ⌝ }
+{
+    (told / 256) as u8
 }
 
 // Tells whether the lengths of a table, an event and its answer are right.
@@ -59,8 +74,7 @@ pub fn event(t: &mut [u8], e: &[u8], a: &mut [u8]) -> u8
         return number::WRONG_LENGTH;
     }
     let intact = validity::valid(t);
-    apply(t, e, a, 0, intact);
-    events::number(events::answer_at(a, 0))
+    number_told(apply(t, e, a, 0, intact))
 }
 
 // Tells whether the lengths of a table, its events and their answer places are right.

@@ -3,7 +3,6 @@ pub mod Added
 pub mod Rooms
 pub mod Counted
 pub mod Levels
-pub mod Numbers
 pub mod Shared
 pub mod Lists
 pub mod Told

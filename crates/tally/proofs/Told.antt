@@ -1,4 +1,4 @@
--- The octets of an answer tell the number and whether a holder was lost, as the answer has them; so what is counted is the event's share.
+-- The octets of an answer tell whether a holder was lost, as the answer has it; so what is counted is the event's share.
 use Prim.Native.Nat.{ℕ, _+_, _*_, _<_, _≤_}
 use mathlib.Core.Path.{_≡_, refl, sym, ap, _∙_}
 use mathlib.Core.Bool.{Bool, true, false}
@@ -10,19 +10,19 @@ use Rattle.octets.specs.Span.{span, put}
 use Rattle.octets.proofs.Spans.{span-cong, span-all, put-on}
 use Rattle.rules.specs.declared.event.Event.{Event}
 use Rattle.rules.specs.Run.{answered, answerRecord}
-use Rattle.rules.specs.Records.{records, eventAt, flag, answerSize, answerIn, answerNumber, lostCall, isLost}
+use Rattle.rules.specs.Records.{records, eventAt, flag, answerSize, answerIn, lostCall, isLost}
 use Rattle.route.proofs.Listed.{length-answer}
 use Rattle.tally.specs.Places as place
 use Rattle.tally.specs.Shares.{adds, shares}
 use Rattle.tally.specs.Entry.{added}
-use Rattle.tally.proofs.Numbers.{number-below}
+use Rattle.route.proofs.Numbers.{number-below}
 use Rattle.tally.proofs.Shared.{level-place}
 
 flag-told : (b : Bool) → eqb (flag b) 1 ≡ b
 flag-told true = refl
 flag-told false = refl
 
--- the answer to event o over table t was written as answer k and read again as a, and l is the level that the loser stood under
+-- the answer to event o over table t was written as answer k and read again as a
 module _ (t o places : List ℕ) (k : ℕ) (fits : answerSize * k + answerSize ≤ length places) {p a : List ℕ} (written : p ≡ put places (answerSize * k) (answerRecord records t o)) (read : a ≡ answerIn p k) where
   same : a ≡ answerRecord records t o
   same =
@@ -31,10 +31,6 @@ module _ (t o places : List ℕ) (k : ℕ) (fits : answerSize * k + answerSize �
       read ∙ ap (λ (q : List ℕ). answerIn q k) written
       ∙ span-cong (put places (answerSize * k) r) (answerSize * k) r 0 answerSize (λ i m. put-on places (answerSize * k) r (omega arith) i (omega arith))
       ∙ span-all r answerSize size
-
-  pub told-number : {n : ℕ} → n ≡ answerNumber a → n ≡ answered records t o .number
-  unfolding answerRecord records
-  told-number h = h ∙ ap answerNumber same
 
   pub told-lost : {q : List ℕ} {lost : Bool} → q ≡ lostCall a → lost ≡ isLost q → lost ≡ answered records t o .call .present
   unfolding answerRecord records

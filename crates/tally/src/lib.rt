@@ -60,12 +60,17 @@ fn step(t: &mut [u8], es: &[u8], places: &mut [u8], totals: &mut [u64], k: usize
         ≡ added (shares (eventAt (eventIn (now (es .entry)) k)) (answered records (now (t .entry)) (eventIn (now (es .entry)) k)))
         (now (totals .entry)) ⌝ }
 {
-    let level = route::apply(t, es, places, k, intact);
+    let told = route::apply(t, es, places, k, intact);
     let e = events::read(es, k);
-    let a = events::answer_at(places, k);
-    let number = events::number(a);
-    let lost = events::is_lost(events::lost_call(a));
-    totals::count(totals, e.kind, e.mark.level.0, number, lost, level);
+    let lost = events::is_lost(events::lost_call(events::answer_at(places, k)));
+    totals::count(
+        totals,
+        e.kind,
+        e.mark.level.0,
+        route::number_told(told),
+        lost,
+        route::level_told(told),
+    );
 }
 
 // Applies the first n events one after another, and counts each. Whether the table is valid was asked once, before them.

@@ -2,7 +2,7 @@
 use Prim.Native.Nat.{_*_}
 use mathlib.Core.Path.{ap}
 use denote.Ref.{now}
-use Rattle.rules.specs.declared.answer.Answer.{Answer}
+use Rattle.route.specs.Entries.{told}
 use Rattle.route.proofs.Applied.{applied-answer, applied-table, applied-octets}
 use borrow.Author.Needs.{needs}
 use Rattle.route.proofs.apply.Statement.{statement}
@@ -11,17 +11,18 @@ use Rattle.route.proofs.apply.Tie as tie
 
 returns : tie.Need-returns
 returns c =
-    let done = c .before .before .before .before .before .before in
+    let written = c .before .before .before .before in
+    let done = written .before .before .before .before in
     let answered = done .before .before in
     let decided = answered .before .before in
     let read = decided .before .before in
     let a = read .before .before .before .before .args in
     let t = now (a .t) in
     let o = eventIn (now (a .es)) (a .k) in (
-      ap (λ (r : Answer). r .call .mark .level .0) (applied-answer t o (read .read .ensures) (decided .outcome-of .ensures .0) (answered .answered .ensures)),
+      ap told (applied-answer t o (read .read .ensures) (decided .outcome-of .ensures .0) (answered .answered .ensures)),
       (
         applied-table t o (read .read .ensures) (decided .outcome-of .ensures .0) (done .effect .ensures),
-        applied-octets t o (read .read .ensures) (decided .outcome-of .ensures .0) (answered .answered .ensures) (now (a .answers)) (answerSize * a .k) (c .before .before .write .ensures),
+        applied-octets t o (read .read .ensures) (decided .outcome-of .ensures .0) (answered .answered .ensures) (now (a .answers)) (answerSize * a .k) (written .write .ensures),
       ),
     )
 
@@ -34,6 +35,10 @@ apply-spec =
     (λ c κs. search needs)
     (λ c κs. search needs)
     (λ c κs. search needs)
+    (λ c. search needs)
+    (λ c. search needs)
+    (λ c. search needs)
+    (λ c. search needs)
     (λ c. search needs)
     (λ c. search needs)
     returns)

@@ -1,10 +1,11 @@
 -- By the lengths.
-use mathlib.Core.Path.{sym, ap, _∙_}
+use mathlib.Core.Path.{sym, _∙_}
 use denote.Ref.{now}
 use native.Mathlib.Omega.{arith}
 use borrow.Author.Tests.{not-true, not-false}
-use Rattle.rules.specs.Records.{answerNumber}
+use Rattle.rules.specs.Records.{records, eventIn}
 use Rattle.route.specs.Entries.{eventLengths}
+use Rattle.route.proofs.Numbers.{number-of}
 use Rattle.route.proofs.Whole.{no-event, event-facts, an-event}
 use borrow.Author.Needs.{needs}
 use Rattle.route.proofs.event.Statement.{statement}
@@ -23,21 +24,13 @@ apply-requires c κs =
     let f = event-facts (now (a .t)) (now (a .e)) (now (a .a)) (sym (c .before .before .before .before .before .event-lengths .ensures) ∙ not-false _ (c .before .before .before .before .if1 .left)) in
     (f .0, (omega arith, (omega arith, c .before .before .valid .ensures)))
 
-answer-at-requires : tie.Need-answer-at-requires
-unfolding eventLengths
-answer-at-requires c κs =
-    let tests = c .before .before .before .before .before .before .before .before .before .before in
-    let a = tests .before .before .before .before .before .args in
-    let f = event-facts (now (a .t)) (now (a .e)) (now (a .a)) (sym (tests .before .event-lengths .ensures) ∙ not-false _ (tests .if1 .left)) in
-    omega arith
-
 returns-2 : tie.Need-returns-2
 unfolding eventLengths
 returns-2 c =
-    let apply = c .before .before .before .before .before .before .before in
+    let apply = c .before .before .before .before .before in
     let tests = apply .before .before .before .before .before in
     let a = tests .before .before .before .before .before .args in
-    an-event (now (a .t)) (now (a .e)) (now (a .a)) (sym (tests .before .event-lengths .ensures) ∙ not-false _ (tests .if1 .left)) (c .number .ensures ∙ ap answerNumber (c .before .answer-at .ensures)) (apply .apply .ensures .1 .0) (apply .apply .ensures .1 .1)
+    an-event (now (a .t)) (now (a .e)) (now (a .a)) (sym (tests .before .event-lengths .ensures) ∙ not-false _ (tests .if1 .left)) (number-of records (now (a .t)) (eventIn (now (a .e)) 0) (apply .apply .ensures .0) (c .number-told .ensures)) (apply .apply .ensures .1 .0) (apply .apply .ensures .1 .1)
 
 pub event-spec : {M : Type 1} → statement M
 event-spec =
@@ -47,7 +40,6 @@ event-spec =
     returns
     (λ c κs. search needs)
     apply-requires
-    answer-at-requires
     (λ c κs. search needs)
     (λ c. search needs)
     (λ c. search needs)

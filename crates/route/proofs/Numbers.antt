@@ -1,5 +1,6 @@
--- Every answer's number is below 64, so that each has its place among the totals.
-use Prim.Native.Nat.{ℕ, _<_}
+-- Every answer's number is below 64; so what is told of an event says both its number and the loser's level.
+use Prim.Native.Nat.{ℕ, _/_, _%_, _<_}
+use mathlib.Core.Path.{_≡_}
 use mathlib.Core.Bool.{Bool, true, false, cond, _||_}
 use mathlib.Core.List.{List}
 use native.Mathlib.Omega.{arith}
@@ -14,6 +15,7 @@ use Rattle.rules.specs.Numbers.{refusalNumber}
 use Rattle.rules.specs.Answer.{anothers, answerOf}
 use Rattle.rules.specs.Layout.{Layout}
 use Rattle.rules.specs.Run.{outcomeOf, answered}
+use Rattle.route.specs.Entries.{told}
 
 refusal-below : (r : Refusal) → refusalNumber r < 64
 refusal-below Malformed = omega arith
@@ -45,3 +47,11 @@ module _ (x : ℕ → Circuit) (n : ℕ) (e : Event) where
 pub number-below : {S : Type 0} (L : Layout S) (s : S) (e : List ℕ) → answered L s e .number < 64
 unfolding answered
 number-below L s e = outcome-below (L .view s) (L .count s) (L .event e) (outcomeOf L s (L .event e))
+
+-- ---- what is told is taken apart
+module _ {S : Type 0} (L : Layout S) (s : S) (e : List ℕ) {w : ℕ} (h : w ≡ told (answered L s e)) where
+  pub number-of : {n : ℕ} → n ≡ w % 256 → n ≡ answered L s e .number
+  number-of q = omega (arith, h, q, number-below L s e)
+
+  pub level-of : {l : ℕ} → l ≡ w / 256 → l ≡ answered L s e .call .mark .level .0
+  level-of q = omega (arith, h, q, number-below L s e)
