@@ -1,17 +1,18 @@
 /* Naustvri: which circuit of a trunk route a call with a precedence gets, who loses one, and what the refused party hears.
  *
  * Every function takes any octets of any length, ends, allocates nothing and keeps nothing from one call to the next. It reads and
- * writes the buffers lent to it and nothing else. A length counts octets.
+ * writes the buffers lent to it and nothing else. A length counts octets; figures_len alone counts numbers of 64 bits.
  *
  * Duties of the caller. No function tests them:
  *
- *   Pointers:  The caller must lend, at each pointer, as many octets as the length beside it says. Where the length is 0 the pointer
- *              is not used, and may be null, as data() of an empty vector in C++ may be.
+ *   Pointers:  The caller must lend, at each pointer, as many octets as the length beside it says, at `figures` as many numbers.
+ *              Where the length is 0 the pointer is not used, and may be null, as data() of an empty vector in C++ may be.
  *   Overlap:   The caller must not lend a buffer that the function writes (its pointer is not const) where it shares an octet with
  *              another buffer of the same call.
  *   Threads:   The caller must see to it that no other thread uses a buffer while a function writes it, and that none writes a buffer
  *              while a function reads it. Calls on different buffers may run at the same time.
- *   Alignment: The caller needs none: a buffer may be lent at any address.
+ *   Alignment: The caller must lend `figures` aligned as C has a uint64_t, which an array of them is. A buffer of octets needs none: it may
+ *              be lent at any address.
  *   Padding:   The caller must compare two structs given back member by member, never by memcmp: between and after their members lie octets of
  *              any value.
  *   Version:   The caller must link the archive that the header belongs to: naustvri_version() == NAUSTVRI_VERSION.
@@ -27,7 +28,7 @@
 /* The version of this header: one number that grows, and its three parts. The major part grows where a host that ignores the change
  * would be wrong, the minor part with any other change that a host sees. */
 #define NAUSTVRI_VERSION_MAJOR 1
-#define NAUSTVRI_VERSION_MINOR 0
+#define NAUSTVRI_VERSION_MINOR 1
 #define NAUSTVRI_VERSION_PATCH 0
 #define NAUSTVRI_VERSION (NAUSTVRI_VERSION_MAJOR * 10000u + NAUSTVRI_VERSION_MINOR * 100u + NAUSTVRI_VERSION_PATCH)
 
@@ -39,7 +40,7 @@ extern "C" {
  * the end, the functions that give a value's name and meaning. A host may go through them too, by two macros of its own: `first` takes
  * the first row and `next` every other. */
 
-/* The numbers given back, in the order in which refusals are tried. At 20 nothing is written. */
+/* The numbers given back, in the order in which refusals are tried. At 20 and 60 nothing is written. */
 #define NAUSTVRI_NUMBERS(first, next) \
     first(NAUSTVRI_DONE, 0, "list carried out, table valid, or field read or written") \
     next(NAUSTVRI_SEIZED, 1, "the call holds the circuit, nobody lost one") \
@@ -50,6 +51,7 @@ extern "C" {
     next(NAUSTVRI_CANCELLED, 6, "the reservation is gone, a holder stays") \
     next(NAUSTVRI_CLOCK_TAKEN, 7, "the clock was looked at") \
     next(NAUSTVRI_WRONG_LENGTH, 20, "a length is wrong") \
+    next(NAUSTVRI_TOO_MANY_LISTS, 60, "a list too many: the totals take no more") \
     next(NAUSTVRI_MALFORMED, 22, "the event or field is malformed") \
     next(NAUSTVRI_TABLE_NOT_VALID, 21, "the table is not valid") \
     next(NAUSTVRI_LOOK_AHEAD_NOT_ALLOWED, 23, "a look-ahead whose LFB is not \"allowed\"") \
@@ -115,6 +117,7 @@ enum naustvri_kind { NAUSTVRI_KINDS(NAUSTVRI_FIRST_CONSTANT, NAUSTVRI_NEXT_CONST
 /* Limits. */
 #define NAUSTVRI_CIRCUITS_MOST 256      /* a table has 1 to 256 circuits */
 #define NAUSTVRI_EVENTS_MOST 4096       /* a list has 0 to 4,096 events */
+#define NAUSTVRI_LISTS_MOST 65536       /* at most 65,536 lists are added to the same totals */
 #define NAUSTVRI_RESERVATION_STEPS 3000 /* a reservation of this age or more, in steps of 10 ms, goes at a clock event */
 
 /* A circuit, 32 octets: where each field stands. A part whose flag is 0 is all zero. */
@@ -146,6 +149,17 @@ enum naustvri_kind { NAUSTVRI_KINDS(NAUSTVRI_FIRST_CONSTANT, NAUSTVRI_NEXT_CONST
 
 /* ANSWER_PLACE where there is none. */
 #define NAUSTVRI_NO_PLACE 65535
+
+/* The day's figures, 95 totals of 64 bits. */
+#define NAUSTVRI_FIGURES 95
+#define NAUSTVRI_FIGURE_LISTS 0         /* lists added */
+#define NAUSTVRI_FIGURE_START 1         /* holders in the table before each list */
+#define NAUSTVRI_FIGURE_SEIZED 2        /* set-ups answered by 1 or 2 */
+#define NAUSTVRI_FIGURE_RELEASED 3      /* events answered by 5 */
+#define NAUSTVRI_FIGURE_LOST 4          /* holders that lost their circuit */
+#define NAUSTVRI_FIGURE_END 5           /* holders in the table after each list */
+#define NAUSTVRI_FIGURE_LOST_BY_LEVEL 6 /* 25 totals: holders that lost their circuit, at + 5 * the taker's level + the loser's level */
+#define NAUSTVRI_FIGURE_ANSWERED 31     /* 64 totals: events by the number that they were answered by, at + that number */
 
 /* The values of a precedence parameter. */
 struct naustvri_precedence {
@@ -208,6 +222,13 @@ uint8_t naustvri_event(uint8_t *table, size_t table_len, const uint8_t *event, s
  * wrong and no buffer is written. It equals its events applied one by one; over a table that is not valid each answer is 22 or 21. */
 uint8_t naustvri_list(uint8_t *table, size_t table_len, const uint8_t *events, size_t events_len, uint8_t *answers,
                       size_t answers_len);
+
+/* A list carried out as naustvri_list does it, and added to the totals in `figures`, which are all zero before the first list: 0, with
+ * the table and the answers that naustvri_list leaves. 20 where a length is wrong, and figures_len is 95 numbers; then 60 where no list can
+ * be added, since figures[NAUSTVRI_FIGURE_LISTS] is 65,536 or more, or any of the totals is 2^64 - 4,096 or more. At 20 and 60 no buffer is
+ * written. From zeros, after any lists over any tables, START + SEIZED == RELEASED + LOST + END, and no total is over 268,435,456. */
+uint8_t naustvri_figures(uint8_t *table, size_t table_len, const uint8_t *events, size_t events_len, uint8_t *answers,
+                         size_t answers_len, uint64_t *figures, size_t figures_len);
 
 /* The lamp map of a valid table with number 0; else the check's number with every other member zero. */
 struct naustvri_lamps_reading naustvri_lamps(const uint8_t *table, size_t table_len);

@@ -9,9 +9,12 @@
 #ifdef __cplusplus
 #include <vector>
 static std::vector<uint8_t> no_octets;
+static std::vector<uint64_t> no_numbers;
 #define NOTHING no_octets.data()
+#define NO_NUMBERS no_numbers.data()
 #else
 #define NOTHING NULL
+#define NO_NUMBERS NULL
 #endif
 
 static int failed;
@@ -59,6 +62,37 @@ static void lend_some(unsigned empty)
     expect(table[NAUSTVRI_CIRCUIT_HELD] == (empty == 0) && answer[NAUSTVRI_ANSWER_NUMBER] == (empty == 0), "an empty list writes nothing");
 }
 
+/* Some of four buffers empty: as above, and bit 3 is the totals. */
+static void lend_totals(unsigned empty)
+{
+    uint8_t table[NAUSTVRI_CIRCUIT_SIZE] = {0}, answer[NAUSTVRI_ANSWER_SIZE] = {0}, event[NAUSTVRI_EVENT_SIZE] = {NAUSTVRI_SET_UP};
+    uint64_t figures[NAUSTVRI_FIGURES] = {0};
+    uint8_t *t = empty & 1 ? NOTHING : table, *a = empty & 4 ? NOTHING : answer, number;
+    const uint8_t *e = empty & 2 ? NOTHING : event;
+    uint64_t *f = empty & 8 ? NO_NUMBERS : figures;
+    size_t t_len = empty & 1 ? 0 : sizeof table, e_len = empty & 2 ? 0 : sizeof event, a_len = empty & 4 ? 0 : sizeof answer;
+    size_t f_len = empty & 8 ? 0 : NAUSTVRI_FIGURES;
+    number = naustvri_figures(t, t_len, e, e_len, a, a_len, f, f_len);
+    expect(number == (empty == 0 || empty == 6 ? NAUSTVRI_DONE : NAUSTVRI_WRONG_LENGTH), "figures are added with both or neither empty");
+    expect(table[NAUSTVRI_CIRCUIT_HELD] == (empty == 0) && answer[NAUSTVRI_ANSWER_NUMBER] == (empty == 0), "figures write as a list does");
+    expect(figures[NAUSTVRI_FIGURE_LISTS] == (number == NAUSTVRI_DONE), "a list that is carried out is counted, an empty one too");
+    expect(figures[NAUSTVRI_FIGURE_SEIZED] == (empty == 0) && figures[NAUSTVRI_FIGURE_END] == (empty == 0), "a seizure is counted");
+    expect(figures[NAUSTVRI_FIGURE_ANSWERED + NAUSTVRI_SEIZED] == (empty == 0), "an event is counted by its number");
+}
+
+/* Totals that take no more, or one list more. */
+static void lend_full_totals(void)
+{
+    uint8_t table[NAUSTVRI_CIRCUIT_SIZE] = {0};
+    uint64_t figures[NAUSTVRI_FIGURES] = {NAUSTVRI_LISTS_MOST - 1};
+    expect(naustvri_figures(table, sizeof table, NOTHING, 0, NOTHING, 0, figures, NAUSTVRI_FIGURES) == NAUSTVRI_DONE, "65,536 lists are added");
+    expect(figures[NAUSTVRI_FIGURE_LISTS] == NAUSTVRI_LISTS_MOST, "the last of them is counted");
+    expect(naustvri_figures(table, sizeof table, NOTHING, 0, NOTHING, 0, figures, NAUSTVRI_FIGURES) == NAUSTVRI_TOO_MANY_LISTS, "and no more");
+    expect(figures[NAUSTVRI_FIGURE_LISTS] == NAUSTVRI_LISTS_MOST, "at 60 nothing is written");
+    expect(NAUSTVRI_FIGURE_LOST_BY_LEVEL + 25 == NAUSTVRI_FIGURE_ANSWERED, "25 totals by level");
+    expect(NAUSTVRI_FIGURE_ANSWERED + 64 == NAUSTVRI_FIGURES, "64 totals by number end them");
+}
+
 /* A record beside another, and the octet after a field, by sums of the header's constants. */
 static void add_offsets(void)
 {
@@ -101,6 +135,9 @@ int main(void)
     lend_nothing();
     for (empty = 0; empty < 8; empty++)
         lend_some(empty);
+    for (empty = 0; empty < 16; empty++)
+        lend_totals(empty);
+    lend_full_totals();
     add_offsets();
     print_all_texts();
     return failed;

@@ -3,7 +3,7 @@
 /// The major part of [`VERSION`]: it grows where a host that ignores the change would be wrong.
 pub const VERSION_MAJOR: u32 = 1;
 /// The minor part of [`VERSION`]: it grows with any other change that a host sees.
-pub const VERSION_MINOR: u32 = 0;
+pub const VERSION_MINOR: u32 = 1;
 /// The patch part of [`VERSION`].
 pub const VERSION_PATCH: u32 = 0;
 /// The version of this package, one number that grows; [`version()`](crate::version) is the archive's.
@@ -26,6 +26,8 @@ pub const ANSWER_SIZE: usize = 16;
 pub const CIRCUITS_MOST: usize = 256;
 /// A list has 0 to 4,096 events.
 pub const EVENTS_MOST: usize = 4096;
+/// At most 65,536 lists are added to the same totals.
+pub const LISTS_MOST: u64 = 65536;
 /// A reservation of this age or more, in steps of 10 ms, goes at a clock event.
 pub const RESERVATION_STEPS: u32 = 3000;
 
@@ -75,3 +77,22 @@ pub const ANSWER_RESERVATION_LOST: usize = 10;
 pub const ANSWER_LOST_RESERVATION: usize = 11;
 /// [`ANSWER_PLACE`] where there is none.
 pub const NO_PLACE: u16 = 65535;
+
+/// How many totals the day's figures have, 64 bits each.
+pub const FIGURES: usize = 95;
+/// In the figures: lists added.
+pub const FIGURE_LISTS: usize = 0;
+/// In the figures: holders in the table before each list.
+pub const FIGURE_START: usize = 1;
+/// In the figures: set-ups answered by 1 or 2.
+pub const FIGURE_SEIZED: usize = 2;
+/// In the figures: events answered by 5.
+pub const FIGURE_RELEASED: usize = 3;
+/// In the figures: holders that lost their circuit.
+pub const FIGURE_LOST: usize = 4;
+/// In the figures: holders in the table after each list.
+pub const FIGURE_END: usize = 5;
+/// In the figures: 25 totals, the holders that lost their circuit, at + 5 × the taker's level + the loser's level.
+pub const FIGURE_LOST_BY_LEVEL: usize = 6;
+/// In the figures: 64 totals, the events by the number that they were answered by, at + that number.
+pub const FIGURE_ANSWERED: usize = 31;

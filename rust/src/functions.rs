@@ -73,6 +73,26 @@ pub fn list(table: &mut [u8], events: &[u8], answers: &mut [u8]) -> u8 {
     }
 }
 
+/// A list carried out as [`list`] does it, and added to the totals in `figures`, which are all zero before the first list: 0, with the table
+/// and the answers that [`list`] leaves. 20 where a length is wrong, and `figures` has [`FIGURES`](crate::FIGURES) numbers; then 60 where no
+/// list can be added, since `figures[FIGURE_LISTS]` is 65,536 or more, or any of the totals is 2^64 - 4,096 or more. At 20 and 60 no buffer is
+/// written.
+#[must_use]
+pub fn figures(table: &mut [u8], events: &[u8], answers: &mut [u8], figures: &mut [u64]) -> u8 {
+    unsafe {
+        raw::naustvri_figures(
+            table.as_mut_ptr(),
+            table.len(),
+            events.as_ptr(),
+            events.len(),
+            answers.as_mut_ptr(),
+            answers.len(),
+            figures.as_mut_ptr(),
+            figures.len(),
+        )
+    }
+}
+
 /// The lamp map of a valid table with number 0; else the check's number with every other member zero.
 pub fn lamps(table: &[u8]) -> LampsReading {
     unsafe { raw::naustvri_lamps(table.as_ptr(), table.len()) }

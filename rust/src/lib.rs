@@ -26,8 +26,8 @@
 //!
 //! - The functions of `include/naustvri.h` over slices: [`event()`], [`list`], [`check`] and so on. Records stay octets; the constants say
 //!   where their fields stand. Each takes any octets of any length, ends, and allocates nothing.
-//! - [`Route`], [`Event`], [`Answer`], [`Done`] and [`Refusal`], in which a record that cannot be meant cannot be written. They decide nothing:
-//!   every octet is made and judged by those functions.
+//! - [`Route`], [`Event`], [`Answer`], [`Done`], [`Refusal`] and [`Figures`], in which a record that cannot be meant cannot be written. They
+//!   decide nothing: every octet is made and judged by those functions, and every total is theirs.
 //!
 //! What a host in C must do by itself, a borrow does here: a buffer that is written overlaps no other, and no other thread uses it meanwhile.
 //!
@@ -45,6 +45,7 @@ extern crate std;
 mod answer;
 mod constants;
 mod event;
+mod figures;
 mod functions;
 mod numbered;
 mod raw;
@@ -56,6 +57,7 @@ mod values;
 pub use answer::{Answer, Done, Lost};
 pub use constants::*;
 pub use event::{Domain, Event};
+pub use figures::Figures;
 pub use functions::*;
 pub use numbered::{Kind, Level, Lfb};
 pub use refusal::Refusal;

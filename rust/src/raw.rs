@@ -25,5 +25,15 @@ extern "C" {
         answers: *mut u8,
         answers_len: usize,
     ) -> u8;
+    pub fn naustvri_figures(
+        table: *mut u8,
+        table_len: usize,
+        events: *const u8,
+        events_len: usize,
+        answers: *mut u8,
+        answers_len: usize,
+        figures: *mut u64,
+        figures_len: usize,
+    ) -> u8;
     pub fn naustvri_lamps(table: *const u8, table_len: usize) -> LampsReading;
 }

@@ -46,6 +46,7 @@ macro_rules! refusals {
 
 refusals! {
     WrongLength = WRONG_LENGTH,
+    TooManyLists = TOO_MANY_LISTS,
     Malformed = MALFORMED,
     TableNotValid = TABLE_NOT_VALID,
     LookAheadNotAllowed = LOOK_AHEAD_NOT_ALLOWED,

@@ -1,8 +1,8 @@
 // A route over a lent table.
 
 use crate::{
-    check, event, lamps, list, Answer, Done, Event, LampsReading, Refusal, ANSWER_NUMBER,
-    ANSWER_SIZE,
+    check, event, figures, lamps, list, Answer, Done, Event, Figures, LampsReading, Refusal,
+    ANSWER_NUMBER, ANSWER_SIZE,
 };
 
 /// A route over a lent table, which was valid when it was lent and stays so.
@@ -34,6 +34,17 @@ impl<'a> Route<'a> {
     /// what its events applied one by one give, and looks through the table once.
     pub fn list(&mut self, events: &[u8], answers: &mut [u8]) -> Result<(), Refusal> {
         Refusal::unless_done(list(self.table, events, answers))
+    }
+
+    /// Applies a list as [`list`](Route::list) does, and adds it to the day's figures; [`Refusal::TooManyLists`] where they take no more, and
+    /// then nothing is done.
+    pub fn figures(
+        &mut self,
+        events: &[u8],
+        answers: &mut [u8],
+        day: &mut Figures,
+    ) -> Result<(), Refusal> {
+        Refusal::unless_done(figures(self.table, events, answers, day.totals_mut()))
     }
 
     /// The lamps of the free circuits; the number in them is 0.

@@ -28,7 +28,7 @@ macro_rules! table {
     };
 }
 
-// The numbers given back, in the order in which refusals are tried. At 20 nothing is written.
+// The numbers given back, in the order in which refusals are tried. At 20 and 60 nothing is written.
 table! {
     "number", number_name, number_meaning;
     DONE = 0, "list carried out, table valid, or field read or written";
@@ -40,6 +40,7 @@ table! {
     CANCELLED = 6, "the reservation is gone, a holder stays";
     CLOCK_TAKEN = 7, "the clock was looked at";
     WRONG_LENGTH = 20, "a length is wrong";
+    TOO_MANY_LISTS = 60, "a list too many: the totals take no more";
     MALFORMED = 22, "the event or field is malformed";
     TABLE_NOT_VALID = 21, "the table is not valid";
     LOOK_AHEAD_NOT_ALLOWED = 23, "a look-ahead whose LFB is not \"allowed\"";

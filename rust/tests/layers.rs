@@ -147,10 +147,48 @@ fn as_answer(result: Result<Done, Refusal>) -> Answer {
     }
 }
 
+// The same events as a list, added to the day's figures in both layers.
+fn add_to_figures(events: &[u8], answers: &[u8], table: &[u8], day: &mut Figures) {
+    let (mut listed, mut lent) = (vec![0; table.len()], vec![0; table.len()]);
+    let (mut told, mut said) = (vec![0; answers.len()], vec![0; answers.len()]);
+    let mut totals = *day.totals();
+    assert_eq!(figures(&mut listed, events, &mut told, &mut totals), DONE);
+    assert_eq!((&listed[..], &told[..]), (table, answers));
+    let mut route = Route::new(&mut lent).unwrap();
+    assert_eq!(route.figures(events, &mut said, day), Ok(()));
+    assert_eq!((route.table(), &said[..]), (table, answers));
+    assert_eq!(day.totals(), &totals);
+    assert_eq!(Figures::from_totals(totals), *day);
+}
+
+// The figures of the whole day: each event stands under its number, and each lost holder under its taker and itself.
+fn figures_close(day: &Figures, rounds: u64, seen: &[u64; 256]) {
+    assert_eq!((day.lists(), day.start()), (rounds, 0));
+    for number in 0..=255 {
+        assert_eq!(day.answered(number), seen[usize::from(number)]);
+    }
+    assert_eq!(day.seized(), seen[1] + seen[2]);
+    assert_eq!(day.released(), seen[5]);
+    assert_eq!(
+        day.start() + day.seized(),
+        day.released() + day.lost() + day.end()
+    );
+    let mut lost = 0;
+    for &taker in Level::ALL {
+        for &loser in Level::ALL {
+            let times = day.lost_by_level(taker, loser);
+            assert_eq!(times > 0, taker.number() < loser.number());
+            lost += times;
+        }
+    }
+    assert_eq!(lost, day.lost());
+}
+
 #[test]
 fn random_events() {
     let mut random = Random(0x9e37_79b9_7f4a_7c15);
-    let mut seen = [0u32; 256];
+    let (mut seen, mut counted) = ([0u32; 256], [0; 256]);
+    let mut day = Figures::default();
     for round in 0..200 {
         let size = (1 + round % 5) * CIRCUIT_SIZE;
         let (mut table, mut lent) = (vec![0; size], vec![0; size]);
@@ -184,8 +222,13 @@ fn random_events() {
             Route::new(&mut listed).unwrap().list(&events, &mut told),
             Ok(())
         );
-        assert_eq!((listed, told), (table, answers));
+        assert_eq!((&listed, &told), (&table, &answers));
+        add_to_figures(&events, &answers, &table, &mut day);
+        for answer in answers.chunks(ANSWER_SIZE) {
+            counted[usize::from(answer[0])] += 1;
+        }
     }
+    figures_close(&day, 200, &counted);
     // Every number that an event over a valid table can have.
     for number in [1, 2, 3, 4, 5, 6, 7, 22, 23, 24, 25, 26, 27, 30, 31, 32] {
         assert!(seen[number] > 0, "no event was answered by {number}");
@@ -204,4 +247,16 @@ fn tables_that_are_refused() {
         route.list(&[0; EVENT_SIZE], &mut []),
         Err(Refusal::WrongLength)
     );
+    let mut totals = [0; FIGURES];
+    totals[FIGURE_LISTS] = LISTS_MOST;
+    let mut full = Figures::from_totals(totals);
+    assert_eq!(
+        route.figures(&[], &mut [], &mut full),
+        Err(Refusal::TooManyLists)
+    );
+    assert_eq!(
+        route.figures(&[0; EVENT_SIZE], &mut [], &mut full),
+        Err(Refusal::WrongLength)
+    );
+    assert_eq!(full.totals(), &totals);
 }

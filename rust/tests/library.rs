@@ -5,15 +5,18 @@ use naustvri::*;
 const GUARD: u8 = 0x5a;
 const MARGIN: usize = 64;
 
-// Lends `call` a copy of the buffer between guard octets, and puts back what the copy then holds.
-fn guarded<T>(buffer: &mut [u8], call: impl FnOnce(&mut [u8]) -> T) -> T {
+// Lends `call` a copy of the buffer, of octets or numbers, between guards, and puts back what the copy then holds.
+fn guarded<N, T>(buffer: &mut [N], call: impl FnOnce(&mut [N]) -> T) -> T
+where
+    N: Copy + PartialEq + From<u8>,
+{
     let within = MARGIN..MARGIN + buffer.len();
-    let mut octets = vec![GUARD; buffer.len() + 2 * MARGIN];
-    octets[within.clone()].copy_from_slice(buffer);
-    let result = call(&mut octets[within.clone()]);
-    buffer.copy_from_slice(&octets[within.clone()]);
-    octets[within].fill(GUARD);
-    assert!(octets.iter().all(|&octet| octet == GUARD));
+    let mut lent = vec![N::from(GUARD); buffer.len() + 2 * MARGIN];
+    lent[within.clone()].copy_from_slice(buffer);
+    let result = call(&mut lent[within.clone()]);
+    buffer.copy_from_slice(&lent[within.clone()]);
+    lent[within].fill(N::from(GUARD));
+    assert!(lent.iter().all(|&guard| guard == N::from(GUARD)));
     result
 }
 
@@ -160,6 +163,89 @@ fn wrong_length_writes_nothing() {
         ([0; CIRCUIT_SIZE], [0xff; 2 * ANSWER_SIZE])
     );
     assert_eq!(list(&mut table, &[], &mut []), DONE);
+}
+
+// A list added to totals, each buffer between guards.
+fn add(table: &mut [u8], events: &[u8], answers: &mut [u8], totals: &mut [u64]) -> u8 {
+    guarded(table, |table| {
+        guarded(answers, |answers| {
+            guarded(totals, |totals| figures(table, events, answers, totals))
+        })
+    })
+}
+
+#[test]
+fn figures_of_the_listing() {
+    let mut table = [0; 2 * CIRCUIT_SIZE];
+    let events = listed_events().concat();
+    let mut answers = [0xff; 9 * ANSWER_SIZE];
+    let mut totals = [0; FIGURES];
+    assert_eq!(add(&mut table, &events, &mut answers, &mut totals), DONE);
+    for (i, answer) in answers.chunks(ANSWER_SIZE).enumerate() {
+        assert_eq!(line(i + 1, answer), LISTING[i]);
+    }
+    let priority_over_routine = FIGURE_LOST_BY_LEVEL + usize::from(5 * PRIORITY + ROUTINE);
+    let mut wanted = [0; FIGURES];
+    for (place, total) in [
+        (FIGURE_LISTS, 1),
+        (FIGURE_SEIZED, 3),
+        (FIGURE_LOST, 1),
+        (FIGURE_END, 2),
+        (priority_over_routine, 1),
+    ] {
+        wanted[place] = total;
+    }
+    for (number, total) in [(1, 2), (2, 1), (3, 1), (7, 2), (27, 1), (30, 1), (31, 1)] {
+        wanted[FIGURE_ANSWERED + number] = total;
+    }
+    assert_eq!(totals, wanted);
+
+    // Calls 3 and 4 are there at the start of another list, and call 3 goes.
+    let release = event_of(RELEASE, 0, call(3), 0);
+    let mut answer = [0xff; ANSWER_SIZE];
+    assert_eq!(add(&mut table, &release, &mut answer, &mut totals), DONE);
+    for place in [
+        FIGURE_LISTS,
+        FIGURE_RELEASED,
+        FIGURE_END,
+        FIGURE_ANSWERED + 5,
+    ] {
+        wanted[place] += 1;
+    }
+    wanted[FIGURE_START] = 2;
+    assert_eq!(totals, wanted);
+}
+
+#[test]
+fn refused_list_adds_nothing() {
+    let octets = event_of(SET_UP, ROUTINE, call(1), 0);
+    let refused = |totals: &[u64], size: usize, number: u8| {
+        let (mut table, mut answer, mut lent) = (vec![0; size], [0xff; 16], totals.to_vec());
+        assert_eq!(add(&mut table, &octets, &mut answer, &mut lent), number);
+        assert!(table.iter().all(|&octet| octet == 0) && answer == [0xff; 16]);
+        assert_eq!(lent, totals);
+    };
+    let with = |place: usize, total: u64| {
+        let mut totals = [0; FIGURES];
+        totals[place] = total;
+        totals
+    };
+    for length in [0, FIGURES - 1, FIGURES + 1] {
+        refused(&vec![LISTS_MOST; length], CIRCUIT_SIZE, WRONG_LENGTH);
+    }
+    refused(&with(FIGURE_LISTS, LISTS_MOST), 31, WRONG_LENGTH);
+    refused(&with(FIGURE_LISTS, LISTS_MOST), 32, TOO_MANY_LISTS);
+    for place in 0..FIGURES {
+        refused(&with(place, u64::MAX - 4095), 32, TOO_MANY_LISTS);
+    }
+
+    let last = &mut with(FIGURE_LISTS, LISTS_MOST - 1);
+    assert_eq!(add(&mut [0; 32], &octets, &mut [0; 16], last), DONE);
+    assert_eq!(add(&mut [0; 32], &octets, &mut [0; 16], last), 60);
+    for place in 1..FIGURES {
+        let totals = &mut with(place, u64::MAX - 4096);
+        assert_eq!(add(&mut [0; 32], &octets, &mut [0; 16], totals), DONE);
+    }
 }
 
 #[test]

@@ -45,7 +45,7 @@ fn enums_there_and_back() {
             Kind::ALL.len(),
             Refusal::ALL.len()
         ),
-        (5, 3, 5, 12)
+        (5, 3, 5, 13)
     );
 }
 
@@ -54,6 +54,10 @@ fn texts() {
     assert_eq!(
         (number_name(2), number_meaning(7)),
         ("SEIZED_WITH_LOSS", "the clock was looked at")
+    );
+    assert_eq!(
+        (number_name(60), number_meaning(60)),
+        ("TOO_MANY_LISTS", "a list too many: the totals take no more")
     );
     assert_eq!(
         (cause_name(46), cause_meaning(46)),
