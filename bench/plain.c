@@ -387,14 +387,76 @@ uint8_t plain_event(uint8_t *table, size_t table_len, const uint8_t *event, size
     return apply(table, circuits, valid(table, circuits), event, answer);
 }
 
+static bool list_lengths_ok(size_t table_len, size_t events_len, size_t answers_len)
+{
+    return table_length_ok(table_len) && events_len % NAUSTVRI_EVENT_SIZE == 0 &&
+           events_len <= NAUSTVRI_EVENTS_MOST * NAUSTVRI_EVENT_SIZE && answers_len == events_len;
+}
+
 uint8_t plain_list(uint8_t *table, size_t table_len, const uint8_t *events, size_t events_len, uint8_t *answers, size_t answers_len)
 {
-    if (!table_length_ok(table_len) || events_len % NAUSTVRI_EVENT_SIZE != 0 ||
-        events_len > NAUSTVRI_EVENTS_MOST * NAUSTVRI_EVENT_SIZE || answers_len != events_len)
+    if (!list_lengths_ok(table_len, events_len, answers_len))
         return NAUSTVRI_WRONG_LENGTH;
     size_t circuits = table_len / NAUSTVRI_CIRCUIT_SIZE;
     bool table_valid = valid(table, circuits);
     for (size_t i = 0; i < events_len; i += NAUSTVRI_EVENT_SIZE)
         apply(table, circuits, table_valid, events + i, answers + i);
+    return NAUSTVRI_DONE;
+}
+
+static uint64_t holders(const uint8_t *table, size_t circuits)
+{
+    uint64_t held = 0;
+    for (size_t i = 0; i < circuits; i++)
+        held += table[i * NAUSTVRI_CIRCUIT_SIZE + HOLDER] == 1;
+    return held;
+}
+
+/* Whether a list can be added to the totals: none of them goes past its end by what a list may add. */
+static bool has_room(const uint64_t *figures)
+{
+    for (size_t i = 0; i < NAUSTVRI_FIGURES; i++)
+        if (figures[i] > UINT64_MAX - NAUSTVRI_EVENTS_MOST)
+            return false;
+    return figures[NAUSTVRI_FIGURE_LISTS] < NAUSTVRI_LISTS_MOST;
+}
+
+/* Adds an event by its answer. `levels` are those under which the holders stood just before it, and stand after it. */
+static void count(uint64_t *figures, uint8_t *levels, const uint8_t *event, const uint8_t *answer)
+{
+    uint8_t number = answer[NAUSTVRI_ANSWER_NUMBER], taker = level_in(event + NAUSTVRI_EVENT_PRECEDENCE);
+    figures[NAUSTVRI_FIGURE_ANSWERED + number]++;
+    if (number == NAUSTVRI_RELEASED)
+        figures[NAUSTVRI_FIGURE_RELEASED]++;
+    if (event[NAUSTVRI_EVENT_KIND] != NAUSTVRI_SET_UP || (number != NAUSTVRI_SEIZED && number != NAUSTVRI_SEIZED_WITH_LOSS))
+        return;
+    uint8_t *level = levels + answer[NAUSTVRI_ANSWER_PLACE], loser = *level;
+    *level = taker;
+    figures[NAUSTVRI_FIGURE_SEIZED]++;
+    if (!answer[NAUSTVRI_ANSWER_CALL_LOST])
+        return;
+    figures[NAUSTVRI_FIGURE_LOST]++;
+    figures[NAUSTVRI_FIGURE_LOST_BY_LEVEL + 5 * taker + loser]++;
+}
+
+uint8_t plain_figures(uint8_t *table, size_t table_len, const uint8_t *events, size_t events_len, uint8_t *answers, size_t answers_len,
+                      uint64_t *figures, size_t figures_len)
+{
+    if (!list_lengths_ok(table_len, events_len, answers_len) || figures_len != NAUSTVRI_FIGURES)
+        return NAUSTVRI_WRONG_LENGTH;
+    if (!has_room(figures))
+        return NAUSTVRI_TOO_MANY_LISTS;
+    size_t circuits = table_len / NAUSTVRI_CIRCUIT_SIZE;
+    bool table_valid = valid(table, circuits);
+    uint8_t levels[NAUSTVRI_CIRCUITS_MOST];
+    for (size_t i = 0; i < circuits; i++)
+        levels[i] = table[i * NAUSTVRI_CIRCUIT_SIZE + HOLDER + LEVEL];
+    figures[NAUSTVRI_FIGURE_LISTS]++;
+    figures[NAUSTVRI_FIGURE_START] += holders(table, circuits);
+    for (size_t i = 0; i < events_len; i += NAUSTVRI_EVENT_SIZE) {
+        apply(table, circuits, table_valid, events + i, answers + i);
+        count(figures, levels, events + i, answers + i);
+    }
+    figures[NAUSTVRI_FIGURE_END] += holders(table, circuits);
     return NAUSTVRI_DONE;
 }

@@ -11,6 +11,8 @@ uint8_t plain_write_reference(uint8_t *buffer, size_t buffer_len, struct naustvr
 uint8_t plain_check(const uint8_t *table, size_t table_len);
 uint8_t plain_event(uint8_t *table, size_t table_len, const uint8_t *event, size_t event_len, uint8_t *answer, size_t answer_len);
 uint8_t plain_list(uint8_t *table, size_t table_len, const uint8_t *events, size_t events_len, uint8_t *answers, size_t answers_len);
+uint8_t plain_figures(uint8_t *table, size_t table_len, const uint8_t *events, size_t events_len, uint8_t *answers, size_t answers_len,
+                      uint64_t *figures, size_t figures_len);
 struct naustvri_lamps_reading plain_lamps(const uint8_t *table, size_t table_len);
 
 #endif

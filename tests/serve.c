@@ -1,6 +1,6 @@
 /* Serves the library over standard input and output, so that a program for any machine can hold it to its own results.
  *
- * A request is a `struct request`, then the octets of up to three buffers in the order in which the function takes them; its response
+ * A request is a `struct request`, then the octets of up to four buffers in the order in which the function takes them; its response
  * is a `struct response`, then the same buffers as the function left them. Request FLUSH has no response: all that came before is
  * written out. Each buffer lies between guard octets or ends where no memory is; the response says whether the guards stand. */
 #define _GNU_SOURCE
@@ -11,13 +11,14 @@
 
 #include "naustvri.h"
 
-enum entry { READ_PRECEDENCE, WRITE_PRECEDENCE, READ_REFERENCE, WRITE_REFERENCE, CHECK, EVENT, LIST, LAMPS, FLUSH };
+enum entry { READ_PRECEDENCE, WRITE_PRECEDENCE, READ_REFERENCE, WRITE_REFERENCE, CHECK, EVENT, LIST, LAMPS, FIGURES, FLUSH };
 
-enum { BUFFERS = 3, LONGEST = 1 << 19, GUARD = 64, GUARD_OCTET = 0x5a, PAGE = 4096, AT_END = 255 };
+enum { BUFFERS = 4, LONGEST = 1 << 19, GUARD = 64, GUARD_OCTET = 0x5a, PAGE = 4096, AT_END = 255 };
 
 struct request {
     uint8_t entry;
     uint8_t place[BUFFERS]; /* how far from an aligned place each buffer starts; AT_END: it ends where no memory is */
+    uint8_t unused[3];
     uint32_t length[BUFFERS];
     struct naustvri_precedence precedence; /* to be written */
     struct naustvri_reference reference;
@@ -114,6 +115,10 @@ static void call(const struct request *q, const struct arena *a, struct response
         r->number = lamps.number;
         r->lit = lamps.lit;
         memcpy(r->words, lamps.words, sizeof r->words);
+        break;
+    case FIGURES:
+        r->number = naustvri_figures(a[0].buffer, a[0].length, a[1].buffer, a[1].length, a[2].buffer, a[2].length,
+                                     (uint64_t *)(void *)a[3].buffer, a[3].length / sizeof(uint64_t));
         break;
     default:
         exit(2);

@@ -1,10 +1,14 @@
 // One call of the library: the request as the serving program takes it, and the response that the independent implementation expects.
 
+use crate::figures;
 use crate::independent::{self, CallReference, Precedence};
 use crate::random::Random;
 
 const AT_END: u8 = 255;
-const FLUSH: u8 = 8;
+const FLUSH: u8 = 9;
+
+// How many buffers a request may have.
+const BUFFERS: usize = 4;
 
 // The octets of the response before the buffers: number, guards, lamps lit, precedence, reference, words.
 pub const RESPONSE: usize = 56;
@@ -39,10 +43,13 @@ fn write_reference(octets: &mut Vec<u8>, value: &CallReference) {
 
 fn request(random: &mut Random, entry: u8, precedence: &Precedence, reference: &CallReference, buffers: &[&[u8]]) -> Vec<u8> {
     let mut octets = vec![entry];
-    for _ in 0..3 {
+    for _ in 0..BUFFERS - 1 {
         octets.push(if random.once_in(3) { AT_END } else { random.below(16) as u8 });
     }
-    for i in 0..3 {
+    // The last buffer is of numbers, which have to be aligned.
+    octets.push(if random.once_in(3) { AT_END } else { random.pick(&[0, 8]) });
+    octets.extend([0; 3]);
+    for i in 0..BUFFERS {
         octets.extend((buffers.get(i).map_or(0, |b| b.len()) as u32).to_le_bytes());
     }
     write_precedence(&mut octets, precedence);
@@ -147,4 +154,18 @@ impl Application<'_> {
     pub fn list_carried_out(&self, random: &mut Random, table: &[u8], answers: &[u8]) -> Case {
         self.case(random, "list", 6, 0, table, answers)
     }
+}
+
+fn number_octets(numbers: &[u64]) -> Vec<u8> {
+    numbers.iter().flat_map(|number| number.to_le_bytes()).collect()
+}
+
+// A list that is added to totals. Table and totals become what it leaves.
+pub fn figures(random: &mut Random, table: &mut [u8], events: &[u8], answers: &[u8], totals: &mut [u64]) -> Case {
+    let before: [&[u8]; BUFFERS] = [table, events, answers, &number_octets(totals)];
+    let request = request(random, 8, &Precedence::default(), &CallReference::default(), &before);
+    let mut told = answers.to_vec();
+    let number = figures::figures(table, events, &mut told, totals);
+    let expected = response(number, &Values::default(), &[table, events, &told, &number_octets(totals)]);
+    Case { what: "figures", request, expected }
 }

@@ -5,7 +5,7 @@ use crate::independent::{ANSWER, CIRCUIT};
 use crate::random::Random;
 use crate::traffic::{some_size, Route};
 
-fn damage(random: &mut Random, table: &mut [u8]) {
+pub fn damage(random: &mut Random, table: &mut [u8]) {
     let circuits = table.len() / CIRCUIT;
     let here = random.below(circuits) * CIRCUIT;
     let part = here + random.pick(&[0, 12]);

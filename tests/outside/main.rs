@@ -1,4 +1,4 @@
-// Holds the library, which a program serves over pipes, to an independent implementation of document 01.
+// Holds the library, which a program serves over pipes, to an independent implementation of document 01 and of document 02's L1.
 //
 //   outside SEED rounds COUNT SERVER..      so many rounds
 //   outside SEED seconds COUNT SERVER..     rounds for so long, with a line now and then
@@ -7,7 +7,9 @@
 
 mod case;
 mod damage;
+mod days;
 mod exchange;
+mod figures;
 mod independent;
 mod paper;
 mod random;
@@ -35,6 +37,8 @@ struct Tally {
     events: usize,
     // How often each number stood in an answer of a list.
     numbers: [usize; 256],
+    // How often each number was given to a list that was to be added to totals.
+    added: [usize; 256],
 }
 
 fn lists(random: &mut Random, tally: &mut Tally, give: &mut dyn FnMut(Case)) {
@@ -66,6 +70,13 @@ fn events_alone(random: &mut Random, give: &mut dyn FnMut(Case)) {
     }
 }
 
+fn days(random: &mut Random, tally: &mut Tally, give: &mut dyn FnMut(Case)) {
+    days::cases(random, &mut |case| {
+        tally.added[case.expected[0] as usize] += 1;
+        give(case);
+    });
+}
+
 fn round(seed: u64, tally: &mut Tally, exchange: &mut Exchange) -> bool {
     let mut random = Random::new(seed);
     let (mut going, mut calls) = (true, 0);
@@ -81,19 +92,29 @@ fn round(seed: u64, tally: &mut Tally, exchange: &mut Exchange) -> bool {
     for _ in 0..STRINGS {
         strings::cases(&mut random, &mut give);
     }
+    days(&mut random, tally, &mut give);
     tally.rounds += 1;
     tally.calls += calls;
     going
 }
 
 fn say(tally: &Tally, since: Instant, end: &str) {
-    let seconds = since.elapsed().as_secs();
-    println!("outside: {} s, {} rounds, {} calls, {} events in lists{}", seconds, tally.rounds, tally.calls, tally.events, end);
+    let (seconds, added) = (since.elapsed().as_secs(), tally.added.iter().sum::<usize>());
+    println!(
+        "outside: {} s, {} rounds, {} calls, {} events in lists, {} lists for figures{}",
+        seconds, tally.rounds, tally.calls, tally.events, added, end
+    );
 }
 
 // How fast it goes: a case is one call, a whole list too.
 fn pace(tally: &Tally, since: Instant) -> String {
     format!(", {:.0} cases a second", tally.calls as f64 / since.elapsed().as_secs_f64())
+}
+
+// How many times which number was met.
+fn met(numbers: &[usize; 256]) -> String {
+    let met = numbers.iter().enumerate().filter(|(_, times)| **times > 0);
+    met.map(|(number, times)| format!("{} × {}", times, number)).collect::<Vec<_>>().join(", ")
 }
 
 fn main() {
@@ -110,7 +131,7 @@ fn main() {
     paper::hold();
     let began = Instant::now();
     let mut said = began;
-    let mut tally = Tally { rounds: 0, calls: 0, events: 0, numbers: [0; 256] };
+    let mut tally = Tally { rounds: 0, calls: 0, events: 0, numbers: [0; 256], added: [0; 256] };
     let mut exchange = Exchange::start(&words[3..]);
     loop {
         let done = if by_time { began.elapsed() >= Duration::from_secs(count) } else { tally.rounds == count };
@@ -127,7 +148,6 @@ fn main() {
         println!("{}", difference);
         exit(1);
     }
-    let met = tally.numbers.iter().enumerate().filter(|(_, times)| **times > 0);
-    println!("outside: answers {}", met.map(|(number, times)| format!("{} × {}", times, number)).collect::<Vec<_>>().join(", "));
+    println!("outside: answers {}; lists for figures {}", met(&tally.numbers), met(&tally.added));
     say(&tally, began, ": no difference");
 }

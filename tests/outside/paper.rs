@@ -1,6 +1,7 @@
-// P1 to P12 and the paper's other examples, copied from document 01 by hand: the independent implementation is held to them first.
+// P1 to P12 and the paper's other examples, copied from document 01 by hand, and the figures of its nine events: the independent
+// implementation is held to them first.
 
-use crate::independent;
+use crate::{figures, independent};
 
 const SET_UP: u8 = 1;
 const RELEASE: u8 = 2;
@@ -29,17 +30,42 @@ fn line(table: &mut [u8], event: [u8; 16]) -> (u8, u8, u16, u8) {
     (answer[0], answer[1], u16::from_le_bytes([answer[2], answer[3]]), answer[5])
 }
 
+// The nine events, each with its line.
+fn listing() -> [([u8; 16], (u8, u8, u16, u8)); 9] {
+    [
+        (event(SET_UP, 4, 1, 0), (1, 0, 0, 0)),
+        (event(LOOK_AHEAD, 2, 2, 100), (3, 0, 1, 0)),
+        (event(SET_UP, 3, 3, 0), (2, 0, 0, 1)),
+        (event(SET_UP, 3, 4, 0), (31, 46, 65535, 0)),
+        (event(RELEASE, 0, 1, 0), (27, 0, 65535, 0)),
+        (event(CLOCK, 0, 0, 3099), (7, 0, 0, 0)),
+        (event(CLOCK, 0, 0, 3100), (7, 0, 1, 0)),
+        (event(SET_UP, 3, 4, 0), (1, 0, 1, 0)),
+        (event(SET_UP, 4, 5, 0), (30, 34, 65535, 0)),
+    ]
+}
+
+// Of the nine events three are seizures, and a PRIORITY call took a circuit from a ROUTINE one; two circuits are held at the end.
+fn hold_figures() {
+    let events = listing().map(|(event, _)| event).concat();
+    let mut wanted = [0; figures::TOTALS];
+    for (place, total) in [(0, 1), (2, 3), (4, 1), (5, 2), (6 + 5 * 3 + 4, 1)] {
+        wanted[place] = total;
+    }
+    for (number, total) in [(1, 2), (2, 1), (3, 1), (7, 2), (27, 1), (30, 1), (31, 1)] {
+        wanted[31 + number] = total;
+    }
+    let (mut table, mut totals) = ([0; 64], [0; figures::TOTALS]);
+    assert_eq!(figures::figures(&mut table, &events, &mut [0; 9 * 16], &mut totals), 0);
+    assert_eq!(totals, wanted);
+}
+
 pub fn hold() {
     let table = &mut [0; 64];
-    assert_eq!(line(table, event(SET_UP, 4, 1, 0)), (1, 0, 0, 0));
-    assert_eq!(line(table, event(LOOK_AHEAD, 2, 2, 100)), (3, 0, 1, 0));
-    assert_eq!(line(table, event(SET_UP, 3, 3, 0)), (2, 0, 0, 1));
-    assert_eq!(line(table, event(SET_UP, 3, 4, 0)), (31, 46, 65535, 0));
-    assert_eq!(line(table, event(RELEASE, 0, 1, 0)), (27, 0, 65535, 0));
-    assert_eq!(line(table, event(CLOCK, 0, 0, 3099)), (7, 0, 0, 0));
-    assert_eq!(line(table, event(CLOCK, 0, 0, 3100)), (7, 0, 1, 0));
-    assert_eq!(line(table, event(SET_UP, 3, 4, 0)), (1, 0, 1, 0));
-    assert_eq!(line(table, event(SET_UP, 4, 5, 0)), (30, 34, 65535, 0));
+    for (event, wanted) in listing() {
+        assert_eq!(line(table, event), wanted);
+    }
+    hold_figures();
 
     for (reserved, clock, removed) in [(4294967000, 2703, 0), (4294967000, 2704, 1), (100, 99, 1)] {
         let table = &mut [0; 32];

@@ -8,6 +8,7 @@
 #![allow(dead_code)]
 
 mod case;
+mod figures;
 mod independent;
 mod random;
 mod traffic;

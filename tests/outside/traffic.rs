@@ -172,6 +172,17 @@ impl Route {
         Application { table: &table, events: &events, answers: &room }.list(random)
     }
 
+    // So many events, made one by one over the table as it then stands.
+    pub fn events(&mut self, random: &mut Random, table: &[u8], count: usize) -> Vec<u8> {
+        let (mut after, mut events) = (table.to_vec(), Vec::new());
+        for _ in 0..count {
+            let event = self.event(random, &after);
+            independent::event(&mut after, &event, &mut [0; ANSWER]);
+            events.extend(event);
+        }
+        events
+    }
+
     // A list made event by event over the table as it then stands.
     pub fn list(&mut self, random: &mut Random, table: &[u8], count: usize) -> Case {
         let (mut after, mut events, mut answers) = (table.to_vec(), Vec::new(), Vec::new());
