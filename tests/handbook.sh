@@ -12,7 +12,7 @@ build() { "$xcc" -O2 -Wall -Wextra -I "$repository/include" -static -no-pie -o "
 
 # The indented lines that replay.c reads, without the words that follow after three spaces.
 build replay
-sed -E '/^    (route [0-9]|event  [0-9a-f]|answer [0-9a-f]|circuit [0-9]+ \|)/!d; s/^    //; s/   .*//' "$handbook" >"$out/printed"
+sed -E '/^    (route [0-9]|event  [0-9a-f]|answer ([0-9a-f]{2} ){15}|circuit [0-9]+ \|)/!d; s/^    //; s/   .*//' "$handbook" >"$out/printed"
 run_x86 "$out/replay" <"$out/printed" >"$out/given"
 diff "$out/printed" "$out/given"
 events=$(grep -c '^event' "$out/printed") || die "no event found in HANDBOOK.md"

@@ -71,6 +71,29 @@ static int long_table(void) { return naustvri_check(table, NAUSTVRI_CIRCUIT_SIZE
 
 static int short_list(void) { return naustvri_list(table, sizeof table, event, 2 * NAUSTVRI_EVENT_SIZE, answer, NAUSTVRI_ANSWER_SIZE); }
 
+static uint64_t figures[NAUSTVRI_FIGURES];
+
+/* An empty list, added to the first so many totals. */
+static int add_nothing(size_t totals) { return naustvri_figures(table, sizeof table, NULL, 0, NULL, 0, figures, totals); }
+
+static int one_total_too_few(void) { return add_nothing(NAUSTVRI_FIGURES - 1); }
+
+static int one_list_too_many(void)
+{
+    memset(figures, 0, sizeof figures);
+    for (int i = 0; i < NAUSTVRI_LISTS_MOST; i++)
+        if (add_nothing(NAUSTVRI_FIGURES) != NAUSTVRI_DONE)
+            return -1;
+    return add_nothing(NAUSTVRI_FIGURES);
+}
+
+static int great_total(void)
+{
+    memset(figures, 0, sizeof figures);
+    figures[NAUSTVRI_FIGURE_START] = UINT64_MAX - 4095;
+    return add_nothing(NAUSTVRI_FIGURES);
+}
+
 static int great_point_code(void)
 {
     uint8_t octets[NAUSTVRI_REFERENCE_SIZE];
@@ -94,6 +117,9 @@ static const struct {
     {"an event of 15 octets", 0, NULL, short_event},
     {"a table of 33 octets", 0, NULL, long_table},
     {"a list with one answer place too few", 0, NULL, short_list},
+    {"figures with 94 totals", 0, NULL, one_total_too_few},
+    {"figures of 65,537 empty lists, from zeros", 0, NULL, one_list_too_many},
+    {"figures with a total of 2^64 - 4,096", 0, NULL, great_total},
     {"a set-up with level 5", 1, "s51", NULL},
     {"a set-up with LFB 11", 1, "s31@1=63", NULL},
     {"a set-up with a digit `a`", 1, "s31@2=0a", NULL},
