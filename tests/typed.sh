@@ -9,6 +9,7 @@ mkdir -p "$out/folder"
 cd "$out/folder"
 decide() { run_linked "$bin/decide"; }
 panel() { run_linked "$bin/panel"; }
+figures() { run_linked "$bin/figures" "$@"; }
 
 # A block begins with a line that is typed, and an empty line ends it.
 sed -n '/^    \$ /,/^$/s/^    //p' "$repository/docs/HANDBOOK.md" >../shown
