@@ -29,6 +29,11 @@ static const struct side {
 
 enum { SIDES = 2 };
 
+/* They stand apart from the others, so that the code round the other calls is what it was before them, and so are their counts. */
+static uint8_t (*const add_figures[SIDES])(uint8_t *, size_t, const uint8_t *, size_t, uint8_t *, size_t, uint64_t *, size_t) = {
+    naustvri_figures, plain_figures};
+static uint64_t figures[SIDES][NAUSTVRI_FIGURES];
+
 #define EACH_SIDE(s) (const struct side *s = sides; s < sides + SIDES; s++)
 
 /* What a call gave back and left in its buffers. */
@@ -96,6 +101,24 @@ static void bench_list(const char *what, const struct workload *w)
     must_be_equal(what, &results[0].number, &results[1].number, 1);
     must_be_equal(what, results[0].table, results[1].table, octets);
     must_be_equal(what, results[0].answers, results[1].answers, sizeof results[0].answers);
+}
+
+/* A list added to totals that are all zero before it. */
+static void bench_figures(const char *what, const struct workload *w)
+{
+    size_t octets = w->circuits * NAUSTVRI_CIRCUIT_SIZE;
+    for EACH_SIDE (s) {
+        size_t k = (size_t)(s - sides);
+        struct result *r = &results[k];
+        memcpy(r->table, w->table, octets);
+        memset(figures[k], 0, sizeof figures[k]);
+        COUNT(r->number = add_figures[k](r->table, octets, w->events, sizeof w->events, r->answers, sizeof r->answers, figures[k], NAUSTVRI_FIGURES));
+        counted(what, w->circuits, s, NAUSTVRI_EVENTS_MOST);
+    }
+    must_be_equal(what, &results[0].number, &results[1].number, 1);
+    must_be_equal(what, results[0].table, results[1].table, octets);
+    must_be_equal(what, results[0].answers, results[1].answers, sizeof results[0].answers);
+    must_be_equal(what, figures[0], figures[1], sizeof figures[0]);
 }
 
 /* Events spread over the list, each alone over the table as the events before it left it. */
@@ -220,6 +243,13 @@ static char *call_list(void)
     return STACK_POINTER();
 }
 
+static char *call_figures(void)
+{
+    number_painted = add_figures[painted - sides](work.table, sizeof work.table, work.events, sizeof work.events, results[0].answers,
+                                                  sizeof results[0].answers, figures[0], NAUSTVRI_FIGURES);
+    return STACK_POINTER();
+}
+
 static char *call_lamps(void)
 {
     number_painted = painted->lamps(work.table, sizeof work.table).number;
@@ -235,7 +265,8 @@ static void write_stacks(void)
         {"read precedence", call_read_precedence}, {"write precedence", call_write_precedence},
         {"read reference", call_read_reference},   {"write reference", call_write_reference},
         {"check", call_check},                     {"event", call_event},
-        {"list", call_list},                       {"lamps", call_lamps},
+        {"list", call_list},                       {"figures", call_figures},
+        {"lamps", call_lamps},
     };
     for EACH_SIDE (s) {
         painted = s;
@@ -268,6 +299,7 @@ int main(void)
                 bench_check("check, mixed table", work.table, sizes[i]);
                 bench_lamps("lamp map, mixed table", work.table, sizes[i]);
                 bench_event("one event alone, mixed", &work);
+                bench_figures("figures of a mixed list, an event", &work);
             }
         }
     }
