@@ -66,10 +66,10 @@ fn is_seizure(kind: u8, number: u8) -> bool
     if kind != 1 {
         return false;
     }
-    match number {
-        1 | 2 => true,
-        _ => false,
+    if number == number::SEIZED {
+        return true;
     }
+    number == number::SEIZED_WITH_LOSS
 }
 
 // Gives the place of the holders of one level that were lost to set-ups of another.
