@@ -11,8 +11,8 @@ use Rattle.octets.proofs.Spans.{octets-each}
 use Rattle.rules.specs.Answer.{noDetail}
 use Rattle.rules.specs.Records.{answerNumber, answerCause, answerDetail, lostCall, lostReservation, isLost, lostReference}
 use Rattle.fields.specs.Reference.{valuesOf}
-use Rattle.lines.specs.Text.{letters, decimal}
-use Rattle.lines.specs.Event.{detail, party, field, numbers, line, mostLetters}
+use Rattle.lines.specs.Text.{letters, decimal, field}
+use Rattle.lines.specs.Event.{detail, party, numbers, line, mostLetters}
 use Rattle.lines.proofs.Decimals.{decimal-length}
 
 -- of a lost party, by the octets of its flag and reference

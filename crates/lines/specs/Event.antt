@@ -7,7 +7,7 @@ use Rattle.rules.specs.Answer.{noDetail}
 use Rattle.rules.specs.Records.{answerNumber, answerCause, answerDetail, lostCall, lostReservation, isLost, lostReference}
 use Rattle.fields.specs.declared.reference.Reference.{Reference}
 use Rattle.fields.specs.Reference.{valuesOf}
-use Rattle.lines.specs.Text.{letters, decimal}
+use Rattle.lines.specs.Text.{letters, decimal, field}
 
 abbrev pub header : List ℕ
 header = letters "event answer cause number call reservation\n"
@@ -21,9 +21,6 @@ named v = decimal (v .identity) ++ letters "/" ++ decimal (v .point)
 -- a lost party (identity/point code or `-`), by its flag and its reference
 unfoldable pub party : List ℕ → List ℕ
 party lost = cond (isLost lost) (named (valuesOf (lostReference lost))) (letters "-")
-
-abbrev pub field : List ℕ → List ℕ  -- a field stands after a space
-field text = letters " " ++ text
 
 abbrev pub numbers : ℕ → List ℕ → List ℕ  -- the first four fields of a line: event, answer, cause, number
 numbers n a =

@@ -24,6 +24,9 @@ decimalIn (suc w) n = cond (ltb n 10) (digit n) (decimalIn w (n / 10) ++ digit (
 abbrev pub decimal : ℕ → List ℕ  -- any number of 64 bits, in decimal
 decimal n = decimalIn 20 n
 
+abbrev pub field : List ℕ → List ℕ  -- a field stands after a space
+field text = letters " " ++ text
+
 -- what digits say that stand after those that said n
 abbrev pub says : ℕ → List ℕ → ℕ
 says n [] = n

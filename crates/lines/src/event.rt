@@ -4,42 +4,30 @@ use events::ANSWER_SIZE;
 use events::Lost;
 use fields::reference::Reference;
 use rules::answer::NO_DETAIL;
-ghost use mathlib.Core.List.{_++_};
 ghost use Prim.Native.Nat.{_+_, _≤_};
-ghost use lib.ListN.{length};
-ghost use Rattle.lines.specs.Text.{letters, decimal, Written};
+ghost use Rattle.lines.specs.Text.{field, Written};
 ghost use Rattle.lines.specs.Event.{mostLetters};
 ghost use Rattle.lines.specs.Event as rule;
-
-// Writes a number after a space.
-fn field(out: &mut [u8], at: usize, n: u64) -> usize
-    requires { ⌜ at ≤ 800 ⌝ }
-    ensures text { λ r. ⌜ Written (now (out .entry)) at (rule.field (decimal n)) (now (out .exit)) r ⌝ }
-    ensures end { λ r. ⌜ r ≤ at + 21 ⌝ }
-{
-    let from = text::put(out, at, b" ");
-    text::number(out, from, n)
-}
 
 // Writes the detail of an answer, after a space.
 fn detail(out: &mut [u8], at: usize, n: u16) -> usize
     requires { ⌜ at ≤ 800 ⌝ }
-    ensures text { λ r. ⌜ Written (now (out .entry)) at (rule.field (rule.detail n)) (now (out .exit)) r ⌝ }
+    ensures text { λ r. ⌜ Written (now (out .entry)) at (field (rule.detail n)) (now (out .exit)) r ⌝ }
     ensures end { λ r. ⌜ r ≤ at + 21 ⌝ }
 {
     if n == NO_DETAIL {
         return text::put(out, at, b" -");
     }
-    field(out, at, n as u64)
+    text::field(out, at, n as u64)
 }
 
 // Writes the call reference of a party that was lost, after a space.
 fn named(out: &mut [u8], at: usize, v: Reference) -> usize
     requires { ⌜ at ≤ 700 ⌝ }
-    ensures text { λ r. ⌜ Written (now (out .entry)) at (rule.field (rule.named v)) (now (out .exit)) r ⌝ }
+    ensures text { λ r. ⌜ Written (now (out .entry)) at (field (rule.named v)) (now (out .exit)) r ⌝ }
     ensures end { λ r. ⌜ r ≤ at + 42 ⌝ }
 {
-    let identity = field(out, at, v.identity as u64);
+    let identity = text::field(out, at, v.identity as u64);
     let stroke = text::put(out, identity, b"/");
     text::number(out, stroke, v.point as u64)
 }
@@ -47,7 +35,7 @@ fn named(out: &mut [u8], at: usize, v: Reference) -> usize
 // Writes a lost party, after a space: its call reference, or a dash where nobody was lost.
 fn party(out: &mut [u8], at: usize, lost: Lost) -> usize
     requires { ⌜ at ≤ 700 ⌝ }
-    ensures text { λ r. ⌜ Written (now (out .entry)) at (rule.field (rule.party lost)) (now (out .exit)) r ⌝ }
+    ensures text { λ r. ⌜ Written (now (out .entry)) at (field (rule.party lost)) (now (out .exit)) r ⌝ }
     ensures end { λ r. ⌜ r ≤ at + 42 ⌝ }
 {
     if !events::is_lost(lost) {
@@ -63,8 +51,8 @@ fn numbers(out: &mut [u8], n: u64, a: [u8; ANSWER_SIZE]) -> usize
     ensures end { λ r. ⌜ r ≤ 34 ⌝ }
 {
     let event = text::number(out, 0, n);
-    let answer = field(out, event, events::number(a) as u64);
-    let cause = field(out, answer, events::cause(a) as u64);
+    let answer = text::field(out, event, events::number(a) as u64);
+    let cause = text::field(out, answer, events::cause(a) as u64);
     detail(out, cause, events::detail(a))
 }
 
@@ -89,23 +77,12 @@ pub fn header(out: &mut [u8]) -> usize
     text::put(out, 0, b"event answer cause number call reservation\n")
 }
 
-// Writes a word, a number and the end of the line.
-fn numbered(out: &mut [u8], word: &[u8], n: u64) -> usize
-    requires { ⌜ length (now word) ≤ 20 ⌝ }
-    ensures text { λ r. ⌜ Written (now (out .entry)) 0 (now (word .entry) ++ decimal n ++ letters "\n") (now (out .exit)) r ⌝ }
-    ensures end { λ r. ⌜ r ≤ 41 ⌝ }
-{
-    let from = text::put(out, 0, word);
-    let end = text::number(out, from, n);
-    text::put(out, end, b"\n")
-}
-
 // Writes the line after those of the events, where n octets were left over.
 pub fn short(out: &mut [u8], n: u64) -> usize
     ensures text { λ r. ⌜ Written (now (out .entry)) 0 (rule.short n) (now (out .exit)) r ⌝ }
     ensures end { λ r. ⌜ r ≤ 41 ⌝ }
 {
-    numbered(out, b"short ", n)
+    text::numbered(out, 0, b"short ", n)
 }
 
 // Writes the only line that there is where there is no table file.
@@ -120,5 +97,5 @@ pub fn bad_table(out: &mut [u8], number: u8) -> usize
     ensures text { λ r. ⌜ Written (now (out .entry)) 0 (rule.badTable number) (now (out .exit)) r ⌝ }
     ensures end { λ r. ⌜ r ≤ 41 ⌝ }
 {
-    numbered(out, b"bad table ", number as u64)
+    text::numbered(out, 0, b"bad table ", number as u64)
 }

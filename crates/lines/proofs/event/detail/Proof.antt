@@ -3,8 +3,7 @@ use mathlib.Core.Path.{ap, refl}
 use native.Mathlib.Omega.{arith}
 use Rattle.octets.proofs.Tests.{if-eq, if-ne}
 use Rattle.rules.specs.Answer.{noDetail}
-use Rattle.lines.specs.Text.{letters, decimal}
-use Rattle.lines.specs.Event.{field}
+use Rattle.lines.specs.Text.{letters, decimal, field}
 use Rattle.lines.proofs.Joined.{said}
 use borrow.Author.Needs.{needs}
 use Rattle.lines.proofs.event.detail.Statement.{statement}

@@ -6,7 +6,8 @@ use native.Mathlib.Omega.{arith}
 use lib.ListN.{getD}
 use mir.Syntax.{w8}
 use mir.Val.{Fits}
-use Rattle.lines.specs.Event.{field, party, line}
+use Rattle.lines.specs.Text.{field}
+use Rattle.lines.specs.Event.{party, line}
 use Rattle.lines.proofs.Joined.{joined, said}
 use Rattle.lines.proofs.Lengths.{line-length}
 use borrow.Author.Needs.{needs}

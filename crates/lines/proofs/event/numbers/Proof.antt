@@ -4,8 +4,7 @@ use mathlib.Core.Path.{ap}
 use native.Mathlib.Omega.{arith}
 use mir.Syntax.{w8, w16}
 use mir.Val.{Fits}
-use Rattle.lines.specs.Text.{decimal}
-use Rattle.lines.specs.Event.{field}
+use Rattle.lines.specs.Text.{decimal, field}
 use Rattle.lines.specs.Event as rule
 use Rattle.lines.proofs.Joined.{joined, said}
 use Rattle.lines.proofs.Lengths.{numbers-length}

@@ -2,7 +2,7 @@
 use mathlib.Core.Path.{ap, _∙_}
 use native.Mathlib.Omega.{arith}
 use Rattle.fields.specs.Reference.{valuesOf}
-use Rattle.lines.specs.Event.{field}
+use Rattle.lines.specs.Text.{field}
 use Rattle.lines.proofs.Joined.{said}
 use Rattle.lines.proofs.Parties.{dash, by-name}
 use borrow.Author.Needs.{needs}

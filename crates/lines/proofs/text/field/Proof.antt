@@ -2,8 +2,8 @@
 use native.Mathlib.Omega.{arith}
 use Rattle.lines.proofs.Joined.{joined}
 use borrow.Author.Needs.{needs}
-use Rattle.lines.proofs.event.field.Statement.{statement}
-use Rattle.lines.proofs.event.field.Tie as tie
+use Rattle.lines.proofs.text.field.Statement.{statement}
+use Rattle.lines.proofs.text.field.Tie as tie
 
 returns : tie.Need-returns
 returns c = (joined (c .before .before .before .before .before .before .put .ensures) (c .before .before .number .ensures .0), omega arith)

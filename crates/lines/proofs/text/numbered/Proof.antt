@@ -2,8 +2,8 @@
 use native.Mathlib.Omega.{arith}
 use Rattle.lines.proofs.Joined.{joined}
 use borrow.Author.Needs.{needs}
-use Rattle.lines.proofs.event.numbered.Statement.{statement}
-use Rattle.lines.proofs.event.numbered.Tie as tie
+use Rattle.lines.proofs.text.numbered.Statement.{statement}
+use Rattle.lines.proofs.text.numbered.Tie as tie
 
 returns : tie.Need-returns
 returns c =
