@@ -1,3 +1,4 @@
 pub mod Text
 pub mod Event
 pub mod Panel
+pub mod Figures
