@@ -1,4 +1,6 @@
-// The programs' octets come from the table file and standard input, and go to standard output.
+// The programs' octets come from the table file and standard input, or from files that their arguments name, and go to standard output.
+pub mod named;
+
 use events::EVENT_SIZE;
 use events::MOST_EVENTS;
 use rules::number::DONE;
@@ -69,19 +71,19 @@ pub fn write(text: &[u8]) -> bool {
     done
 }
 
-// Reads the octets of the table file, and says that it failed where the file cannot be opened or read.
-fn file(buffer: &mut [u8]) -> Taken
+// Reads the octets of a file, and says that it failed where the file cannot be opened or read.
+fn file(name: &[u8], buffer: &mut [u8]) -> Taken
     ensures { λ r. ⌜ r .octets ≤ length (now (buffer .exit)) ⌝ }
 {
-    let table = os::open_read(b"circuits.bin");
-    if table < 0 {
+    let opened = os::open_read(name);
+    if opened < 0 {
         return Taken {
             octets: 0,
             failed: true,
         };
     }
-    let taken = fill(table, buffer);
-    libc::close(table);
+    let taken = fill(opened, buffer);
+    libc::close(opened);
     taken
 }
 
@@ -99,16 +101,11 @@ fn bad_table(number: u8) {
     write(&text[..n]);
 }
 
-// Reads the table from its file and gives its length. Where there is none, or the check refuses it, the only line says so and 0 is given.
-pub fn table(buffer: &mut [u8]) -> usize
-    ensures { λ r. ⌜ Checked (now (buffer .exit)) r ⌝ }
+// Gives the length of a table that was read into the buffer. Where the check refuses it, the only line says so and 0 is given.
+fn checked(n: usize, buffer: &[u8]) -> usize
+    requires { ⌜ n ≤ length (now buffer) ⌝ }
+    ensures { λ r. ⌜ Checked (now (buffer .entry)) r ⌝ }
 {
-    let taken = file(buffer);
-    let n = taken.octets;
-    if taken.failed {
-        no_table();
-        return 0;
-    }
     let number = validity::check(&buffer[..n]);
     if number != DONE {
         bad_table(number);
@@ -117,17 +114,33 @@ pub fn table(buffer: &mut [u8]) -> usize
     n
 }
 
+// Reads the table from its file and gives its length. Where there is none, or the check refuses it, the only line says so and 0 is given.
+pub fn table(buffer: &mut [u8]) -> usize
+    ensures { λ r. ⌜ Checked (now (buffer .exit)) r ⌝ }
+{
+    let taken = file(b"circuits.bin", buffer);
+    if taken.failed {
+        no_table();
+        return 0;
+    }
+    checked(taken.octets, buffer)
+}
+
+// Writes the line for n octets that were left over after the last whole event, where there are any, and tells whether it was written.
+pub fn short(n: u8) -> bool {
+    if n == 0 {
+        return true;
+    }
+    let mut text = [0u8; LINE];
+    let length = lines::event::short(&mut text, n as u64);
+    write(&text[..length])
+}
+
 // Says what comes after the last whole event: a line where octets were left over, or on standard error why a read failed.
 pub fn ended(taken: Taken) {
-    let n = taken.octets % EVENT_SIZE;
-    let mut text = [0u8; LINE];
     if taken.failed {
         os::fail(b"standard input");
         return;
     }
-    if n == 0 {
-        return;
-    }
-    let length = lines::event::short(&mut text, n as u64);
-    write(&text[..length]);
+    short((taken.octets % EVENT_SIZE) as u8);
 }

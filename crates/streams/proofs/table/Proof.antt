@@ -1,0 +1,18 @@
+-- There is no table, or it is the one that the check took.
+use borrow.Author.Needs.{needs}
+use Rattle.streams.proofs.Tables.{none}
+use Rattle.streams.proofs.table.Statement.{statement}
+use Rattle.streams.proofs.table.Tie as tie
+
+pub table-spec : {M : Type 1} → statement M
+table-spec =
+    tie.close
+    (tie.spec
+    (λ c. search needs)
+    (λ c κs. search needs)
+    (λ c κs. search needs)
+    (λ c. search needs)
+    (λ c. none _)
+    (λ c κs. search needs)
+    (λ c. search needs)
+    (λ c. search needs))
