@@ -1,0 +1,37 @@
+// This module applies the events of one input to one table, and counts the holders of the table before them and after them.
+use crate::lists;
+use events::EVENT_SIZE;
+ghost use mathlib.Core.Path.{_≡_};
+ghost use Prim.Native.Nat.{_≤_};
+ghost use lib.ListN.{length};
+ghost use Rattle.rules.specs.Records.{mostCircuits};
+ghost use Rattle.tally.specs.Places.{figures};
+ghost use Rattle.figures.specs.Output.{Sized};
+
+// This says what one table and its events came to: its holders before them and after them, and how they ended.
+pub struct Pair {
+    pub start: u64,
+    pub end: u64,
+    pub left: u8,
+    pub failed: bool,
+    pub refused: bool,
+}
+
+// Applies the events of the file to the table and adds them to the totals.
+pub fn taken(file: i32, table: &mut [u8], totals: &mut [u64]) -> Pair
+    requires { ⌜ Sized (length (now table)) ⌝ }
+    requires { ⌜ length (now totals) ≡ figures ⌝ }
+    ensures start { λ r. ⌜ r .start ≤ mostCircuits ⌝ }
+    ensures end { λ r. ⌜ r .end ≤ mostCircuits ⌝ }
+{
+    let start = tally::holders(table);
+    let ended = lists::all(file, table, totals);
+    let end = tally::holders(table);
+    Pair {
+        start,
+        end,
+        left: (ended.octets % EVENT_SIZE) as u8,
+        failed: ended.failed,
+        refused: ended.refused,
+    }
+}
