@@ -1,9 +1,9 @@
 #!/bin/sh
-# demo.sh: 01's table of two free circuits and its nine events, in a folder of their own: the lamps before and after the events, and
-# decide's line for each.
+# demo.sh: 01's table of two free circuits and its nine events, in a folder of their own: the lamps before and after the events,
+# decide's line for each, and their figures.
 . "$(dirname "$0")/machine.sh"
-echo "demo: proves the two programs, crate by crate, and links them; some minutes where nothing is proved yet" >&2
-(cd "$repository" && "$rt" check decide panel 2>&1) | sed -un 's/^rt: \(.* proved ([0-9]* s)\)$/demo: \1/p' >&2
+echo "demo: proves the three programs, crate by crate, and links them; some minutes where nothing is proved yet" >&2
+(cd "$repository" && "$rt" check decide panel figures 2>&1) | sed -un 's/^rt: \(.* proved ([0-9]* s)\)$/demo: \1/p' >&2
 build_programs
 room=$(mktemp -d)
 trap 'rm -rf "$room"' EXIT
@@ -36,3 +36,6 @@ run_linked "$bin/panel" <events
 echo
 echo "\$ decide <events    what each event is answered"
 run_linked "$bin/decide" <events | paste -d '\t' - words | expand -t 44 | sed 's/ *$//'
+echo
+echo "\$ figures <events    what they did, in all"
+run_linked "$bin/figures" <events

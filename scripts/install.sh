@@ -8,17 +8,19 @@ case $prefix in /*) ;; *) echo "PREFIX has to start with /: $prefix" >&2 && exit
 # For each file that is installed: where it stands in the repository, where it goes, and its mode.
 files() {
     cat <<'END'
-include/naustvri.h              include/naustvri.h                644
-target/staticlib/libnaustvri.a  lib/libnaustvri.a                 644
-target/install/naustvri.pc      lib/pkgconfig/naustvri.pc         644
-target/bin/decide               bin/naustvri-decide               755
-target/bin/panel                bin/naustvri-panel                755
-man/naustvri-decide.1           share/man/man1/naustvri-decide.1  644
-man/naustvri-panel.1            share/man/man1/naustvri-panel.1   644
-docs/HANDBOOK.md                share/doc/naustvri/HANDBOOK.md    644
-CHANGELOG.md                    share/doc/naustvri/CHANGELOG.md   644
-LICENSE                         share/doc/naustvri/LICENSE        644
-examples/two_calls.c            share/doc/naustvri/two_calls.c    644
+include/naustvri.h              include/naustvri.h                 644
+target/staticlib/libnaustvri.a  lib/libnaustvri.a                  644
+target/install/naustvri.pc      lib/pkgconfig/naustvri.pc          644
+target/bin/decide               bin/naustvri-decide                755
+target/bin/panel                bin/naustvri-panel                 755
+target/bin/figures              bin/naustvri-figures               755
+man/naustvri-decide.1           share/man/man1/naustvri-decide.1   644
+man/naustvri-panel.1            share/man/man1/naustvri-panel.1    644
+man/naustvri-figures.1          share/man/man1/naustvri-figures.1  644
+docs/HANDBOOK.md                share/doc/naustvri/HANDBOOK.md     644
+CHANGELOG.md                    share/doc/naustvri/CHANGELOG.md    644
+LICENSE                         share/doc/naustvri/LICENSE         644
+examples/two_calls.c            share/doc/naustvri/two_calls.c     644
 END
 }
 

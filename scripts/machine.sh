@@ -55,9 +55,9 @@ library() {
     printf '%s\n' "$repository/target/staticlib/libnaustvri.a"
 }
 
-# build_programs CRATES..: proves and links decide and panel, in the folder $bin; and proves the crates named, at the same time.
+# build_programs CRATES..: proves and links decide, panel and figures, in the folder $bin; and proves the crates named, at the same time.
 build_programs() {
-    log=$(cd "$repository" && "$rt" check decide panel "$@" 2>&1) || { printf '%s\n' "$log" >&2; exit 1; }
+    log=$(cd "$repository" && "$rt" check decide panel figures "$@" 2>&1) || { printf '%s\n' "$log" >&2; exit 1; }
     bin=$repository/target/bin
 }
 

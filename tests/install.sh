@@ -18,6 +18,7 @@ target install PREFIX="$host"
 target install PREFIX=/usr DESTDIR="$stage"
 cat >"$room/files" <<'END'
 ./bin/naustvri-decide
+./bin/naustvri-figures
 ./bin/naustvri-panel
 ./include/naustvri.h
 ./lib/libnaustvri.a
@@ -27,6 +28,7 @@ cat >"$room/files" <<'END'
 ./share/doc/naustvri/LICENSE
 ./share/doc/naustvri/two_calls.c
 ./share/man/man1/naustvri-decide.1
+./share/man/man1/naustvri-figures.1
 ./share/man/man1/naustvri-panel.1
 END
 installed "$host" | diff "$room/files" -
