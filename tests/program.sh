@@ -1,6 +1,6 @@
 #!/bin/sh
-# program.sh: runs decide and panel on tables and events of every kind, and compares what they write with an independent implementation
-# of document 01. The table file has to stay as it was.
+# program.sh: runs decide, panel and figures on tables and events of every kind, and compares what they write with an independent
+# implementation of documents 01 and 02. The table files have to stay as they were.
 . "$(dirname "$0")/../scripts/machine.sh"
 need rustc=rustc
 build_programs
@@ -8,16 +8,21 @@ out=$repository/target/program
 rm -rf "$out"
 mkdir -p "$out"
 rustc -O --edition 2021 -o "$out/expected" "$repository/tests/outside/program.rs"
+rustc -O --edition 2021 -o "$out/day" "$repository/tests/figures.rs"
 cd "$out"
+programs='decide panel figures'
 cases=0
 
-# hold WHAT: both programs on the files circuits.bin and events; nothing may be said on standard error.
+# should PROGRAM: what it should write, by the file circuits.bin and standard input.
+should() { if [ "$1" = figures ]; then ./day; else ./expected "$1"; fi; }
+
+# hold WHAT: the three programs on the files circuits.bin and events; nothing may be said on standard error.
 hold() {
     rm -f kept.bin
     [ ! -f circuits.bin ] || cp circuits.bin kept.bin
-    for program in decide panel; do
+    for program in $programs; do
         run_linked "$bin/$program" <events >given 2>said
-        ./expected "$program" <events >wanted
+        should "$program" <events >wanted
         cmp -s wanted given || { diff wanted given | head -n 5; die "$program, $1: another output"; }
         [ ! -s said ] || die "$program, $1: $(cat said)"
     done
@@ -25,7 +30,7 @@ hold() {
     cases=$((cases + 1))
 }
 
-# only WORDS: what both programs wrote last is this one line.
+# only WORDS: what the programs wrote last is this one line.
 only() { [ "$(cat given)" = "$1" ] && [ "$(wc -l <given)" = 1 ] || die "not the only line '$1'"; }
 
 # zeros COUNT: so many zero octets.
@@ -58,6 +63,7 @@ done
 zeros 64 >circuits.bin
 hold "01's listing"
 run_linked "$bin/decide" <events | diff "$repository/crates/decide/stdout" -
+run_linked "$bin/figures" <events | diff "$repository/crates/figures/stdout" -
 for circuits in 1 2 64 65 256; do
     for count in 0 1 100; do
         draw $circuits $count $((circuits + count))
@@ -86,16 +92,16 @@ done
 # By a pipe, in pieces that end anywhere, and into one.
 draw 30 10000 1
 zeros 3 >>events
-./expected decide <events >wanted
-./expected drip <events | run_linked "$bin/decide" | cat | cmp wanted -
-./expected panel <events >wanted
-./expected drip <events | run_linked "$bin/panel" | cat | cmp wanted -
+for program in $programs; do
+    should "$program" <events >wanted
+    ./expected drip <events | run_linked "$bin/$program" | cat | cmp wanted -
+done
 cases=$((cases + 1))
 
 # A read and a write that fail are named on standard error.
 zeros 64 >circuits.bin
-for program in decide panel; do
-    ./expected "$program" </dev/null >wanted
+for program in $programs; do
+    should "$program" </dev/null >wanted
     run_linked "$bin/$program" <. >given 2>said
     cmp wanted given
     [ "$(cat said)" = 'standard input: Is a directory' ] || die "$program, a read that fails: $(cat said)"
@@ -112,4 +118,90 @@ sed -n '/^    event answer cause/,/^$/{/^$/q;s/^    //p}' "$handbook" >wanted
 run_linked "$bin/decide" <events | diff wanted -
 cases=$((cases + 1))
 
-echo "program: decide and panel write what they should in $cases cases"
+# figures on files by name. Each is a table and its events: an hour, a full list, two and a rest, a rest alone, and nothing.
+pair() { draw "$2" "$3" "$2" && zeros "$4" >>events && mv circuits.bin "$1.table" && mv events "$1.events"; }
+pair hour 30 100 0
+pair list 5 4096 0
+pair lists 256 8192 3
+pair rest 64 0 15
+pair nothing 2 0 0
+cksum ./*.table ./*.events >kept
+
+# by_name WHAT FILE..: figures on these files; nothing may be said on standard error.
+by_name() {
+    what=$1
+    shift
+    run_linked "$bin/figures" "$@" </dev/null >given 2>said
+    ./day "$@" >wanted
+    cmp -s wanted given || { diff wanted given | head -n 5; die "figures, $what: another output"; }
+    [ ! -s said ] || die "figures, $what: $(cat said)"
+    cases=$((cases + 1))
+}
+
+# last WORDS: these are what figures wrote last, behind the rows.
+last() { [ "$(sed '1,/^ROUTINE/d' given | tr '\n' ' ')" = "$1" ] || die "not last, behind the totals: '$1'"; }
+
+for name in hour list lists rest nothing; do
+    by_name "the pair $name" $name.table $name.events
+    by_name "the pair $name twice" $name.table $name.events $name.table $name.events
+    by_name "the pair $name with another" hour.table hour.events $name.table $name.events
+done
+by_name 'a file by its whole path' "$out/hour.table" "$out/hour.events"
+by_name 'the events of another table' hour.table list.events
+by_name 'two rests' lists.table lists.events hour.table hour.events rest.table rest.events
+last 'short 3 short 15 '
+by_name 'two rests the other way round' rest.table rest.events lists.table lists.events
+last 'short 15 short 3 '
+cksum ./*.table ./*.events | cmp kept - || die "a file was written"
+
+# 65,536 lists are added, however many tables they are of; no empty list follows a full one, and no line is lost.
+zeros 32 >t
+: >none
+zeros 5 >five
+# shellcheck disable=SC2046
+set -- $(yes 't none' | head -n 65535)
+by_name '65,536 lists' t five "$@"
+last 'short 5 '
+by_name '65,536 lists, the last one full' "$@" list.table list.events
+last ''
+by_name '65,537 lists' "$@" t five t none t none
+last 'short 5 60 '
+by_name '65,537 lists, the last one with a rest' "$@" t none t five
+last '60 '
+by_name '65,537 lists, the last two of one table' "$@" lists.table lists.events t five
+last '60 '
+
+# ended WHAT LINE WORDS FILE..: figures writes this line alone, or nothing, and says these words on standard error, also after a good pair.
+ended() {
+    what=$1 line=$2 words=$3
+    shift 3
+    for good in '' 'hour.table hour.events'; do
+        # shellcheck disable=SC2086
+        run_linked "$bin/figures" $good "$@" </dev/null >given 2>said
+        printf '%b' "$line" | cmp -s - given || die "figures, $what: $(head -n 3 given)"
+        printf '%s\n' "$words" | cmp -s - said || die "figures, $what: $(cat said)"
+        cases=$((cases + 1))
+    done
+}
+
+long=$(zeros 5000 | tr '\000' x)
+cut=$(printf %.4096s "$long")
+mkdir folder
+zeros 33 >20.table
+{ printf '\002' && zeros 31; } >21.table
+ended 'a missing table' 'no table\n' 'missing: No such file or directory' missing hour.events
+ended 'a folder for a table' 'no table\n' 'folder: Is a directory' folder hour.events
+ended 'no name for a table' 'no table\n' ': No such file or directory' '' hour.events
+ended 'a name too long for a table' 'no table\n' "$cut: File name too long" "$long" hour.events
+ended 'a table of 33 octets' 'bad table 20\n' '20.table: bad table' 20.table hour.events
+ended 'a damaged table' 'bad table 21\n' '21.table: bad table' 21.table hour.events
+ended 'missing events' '' 'missing: No such file or directory' hour.table missing
+ended 'a folder for events' '' 'folder: Is a directory' hour.table folder
+ended 'a name too long for events' '' "$cut: File name too long" hour.table "$long"
+ended 'neither table nor events' 'no table\n' 'missing: No such file or directory' missing folder
+ended 'a table without events' '' 'figures: each table needs its events: figures TABLE EVENTS ..' hour.table
+run_linked "$bin/figures" hour.table hour.events >/dev/full 2>said
+[ "$(cat said)" = 'standard output: No space left on device' ] || die "figures, a write that fails: $(cat said)"
+cases=$((cases + 1))
+
+echo "program: decide, panel and figures write what they should in $cases cases"
