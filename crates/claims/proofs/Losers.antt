@@ -19,7 +19,8 @@ use Rattle.rules.specs.declared.outcome.Outcome.the-variants.{Refuse, Do, Clock
 use Rattle.rules.specs.Answer.{answerOf}
 use Rattle.rules.specs.Layout.{Layout}
 use Rattle.rules.specs.Run.{outcomeOf, after, answered, answerRecord}
-use Rattle.rules.specs.Records.{records, eventSize, eventIn, answerIn, flag, answerDetail, lostCall, isLost, emptyTable}
+use Rattle.rules.proofs.Records.{flag-back}
+use Rattle.rules.specs.Records.{records, eventSize, eventIn, answerIn, answerDetail, lostCall, isLost, emptyTable}
 use Rattle.rules.proofs.Grounds.{Grounds, decided}
 use Rattle.route.specs.Entries.{eventsTo, eventsIn, listNumber, listTable, listAnswers}
 use Rattle.tally.specs.Places as place
@@ -85,10 +86,6 @@ one-pair a b c d ha hb hc hd =
     (λ q. at-off (5 * a + b) 1 (5 * c + d) (λ z. q (omega arith)) ∙ sym (ap₂ (λ (v w : Bool). one (v && w)) (eq-eqb a c p) (ne-eqb b d q))))
     (λ p. at-off (5 * a + b) 1 (5 * c + d) (λ z. p (omega arith)) ∙ sym (ap (λ (v : Bool). one (v && eqb b d)) (ne-eqb a c p)))
 
-flag-so : (b : Bool) → eqb (flag b) 1 ≡ b
-flag-so true = refl
-flag-so false = refl
-
 module _ (n taker loser : ℕ) (ht : taker < 5) (hl : loser < 5) where
   -- ---- one turn, whose table shows the history
   module _ (before : List Turn) (t : List ℕ) (ran : Ran (emptyTable n) before t) (p : Turn) (said : p .answer ≡ answerRecord records t (p .event)) where
@@ -97,7 +94,7 @@ module _ (n taker loser : ℕ) (ht : taker < 5) (hl : loser < 5) where
 
     says-lost : isLost (lostCall (p .answer)) ≡ a .call .present
     unfolding answerRecord records
-    says-lost = ap (λ (r : List ℕ). isLost (lostCall r)) said ∙ flag-so (a .call .present)
+    says-lost = ap (λ (r : List ℕ). isLost (lostCall r)) said ∙ flag-back (a .call .present)
 
     says-where : answerDetail (p .answer) ≡ a .detail
     unfolding answerRecord records

@@ -1,17 +1,17 @@
 -- Lists one after another give the text of all their events.
 use Prim.Native.Nat.{ℕ, zero, suc, _+_, _≤_, _<_}
-use mathlib.Core.Path.{_≡_, refl, sym, ap, _∙_}
+use mathlib.Core.Path.{_≡_, refl, _∙_}
 use mathlib.Core.Logic.{_≢_}
 use mathlib.Core.Bool.{Bool, true, cond}
 use mathlib.Core.List.{List, _++_}
 use native.Mathlib.Omega.{arith}
-use lib.ListN.{length, getD}
+use lib.ListN.{getD}
 use Rattle.rules.specs.Run.{run}
 use Rattle.rules.specs.Records.{records}
 use Rattle.route.specs.Entries.{eventsIn}
 use Rattle.tally.specs.Places as place
 use Rattle.tally.specs.Shares.{eventsAdd, listAdds}
-use Rattle.tally.specs.Entry.{hasRoom, added}
+use Rattle.tally.specs.Entry.{added}
 use Rattle.tally.proofs.Added.{length-added, added-at}
 use Rattle.tally.proofs.Lists.{list-events}
 use Rattle.tally.proofs.Shared.{events-append}

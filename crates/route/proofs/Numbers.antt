@@ -7,28 +7,13 @@ use native.Mathlib.Omega.{arith}
 use Rattle.rules.specs.declared.circuit.Circuit.{Circuit}
 use Rattle.rules.specs.declared.event.Event.{Event}
 use Rattle.rules.specs.declared.outcome.Act.the-variants.{Seize, Reserve, Release, Cancel}
-use Rattle.rules.specs.declared.outcome.Refusal.{Refusal}
-use Rattle.rules.specs.declared.outcome.Refusal.the-variants.{Malformed, TableNotValid, NotAllowed, ByRoutine, AlreadyThere, MarkDiffers, HolderNotLower, NotThere, NoCircuitForRoutine, NoCircuit, NoCircuitToReserve}
 use Rattle.rules.specs.declared.outcome.Outcome.{Outcome}
 use Rattle.rules.specs.declared.outcome.Outcome.the-variants.{Refuse, Do, Clock}
-use Rattle.rules.specs.Numbers.{refusalNumber}
 use Rattle.rules.specs.Answer.{anothers, answerOf}
 use Rattle.rules.specs.Layout.{Layout}
 use Rattle.rules.specs.Run.{outcomeOf, answered}
+use Rattle.rules.proofs.Numbers.{refusal-below}
 use Rattle.route.specs.Entries.{told}
-
-refusal-below : (r : Refusal) → refusalNumber r < 64
-refusal-below Malformed = omega arith
-refusal-below TableNotValid = omega arith
-refusal-below NotAllowed = omega arith
-refusal-below ByRoutine = omega arith
-refusal-below AlreadyThere = omega arith
-refusal-below MarkDiffers = omega arith
-refusal-below HolderNotLower = omega arith
-refusal-below NotThere = omega arith
-refusal-below NoCircuitForRoutine = omega arith
-refusal-below NoCircuit = omega arith
-refusal-below NoCircuitToReserve = omega arith
 
 either-below : (b : Bool) (j k : ℕ) → j < 64 → k < 64 → cond b j k < 64
 either-below true j k p q = p

@@ -4,7 +4,6 @@ use mathlib.Core.Path.{_≡_, sym, ap, _∙_, subst}
 use mathlib.Core.Bool.{Bool, true}
 use mathlib.Core.List.{List}
 use native.Mathlib.Omega.{arith}
-use lib.ListN.{length, getD}
 use Rattle.octets.proofs.Tests.{by-so}
 use Rattle.tally.specs.Places as place
 use Rattle.tally.specs.Shares.{at, one}

@@ -1,10 +1,10 @@
 -- A list of events, one more counted.
-use Prim.Native.Nat.{ℕ, _+_, _<_, _≤_}
+use Prim.Native.Nat.{ℕ, _+_, _<_}
 use mathlib.Core.Path.{_≡_, refl, sym, ap, _∙_}
 use mathlib.Core.List.{List, [], _∷_}
 use native.Mathlib.Numerals.{add-one}
 use native.Mathlib.Omega.{arith}
-use lib.ListN.{length, getD}
+use lib.ListN.{length}
 use Rattle.rules.specs.Run.{answered}
 use Rattle.rules.specs.Records.{records, eventAt, eventIn}
 use Rattle.route.specs.Entries.{eventsTo}

@@ -1,26 +1,22 @@
 -- The octets of an answer tell whether a holder was lost, as the answer has it; so what is counted is the event's share.
 use Prim.Native.Nat.{ℕ, _+_, _*_, _<_, _≤_}
-use mathlib.Core.Path.{_≡_, refl, sym, ap, _∙_}
-use mathlib.Core.Bool.{Bool, true, false}
+use mathlib.Core.Path.{_≡_, sym, ap, _∙_}
+use mathlib.Core.Bool.{Bool, true}
 use mathlib.Core.List.{List}
 use native.Mathlib.Omega.{arith}
 use lib.ListN.{length}
-use lib.Dec.{eqb}
-use Rattle.octets.specs.Span.{span, put}
+use Rattle.octets.specs.Span.{put}
 use Rattle.octets.proofs.Spans.{span-cong, span-all, put-on}
 use Rattle.rules.specs.declared.event.Event.{Event}
 use Rattle.rules.specs.Run.{answered, answerRecord}
-use Rattle.rules.specs.Records.{records, eventAt, flag, answerSize, answerIn, lostCall, isLost}
+use Rattle.rules.specs.Records.{records, eventAt, answerSize, answerIn, lostCall, isLost}
+use Rattle.rules.proofs.Records.{flag-back}
 use Rattle.route.proofs.Listed.{length-answer}
 use Rattle.tally.specs.Places as place
 use Rattle.tally.specs.Shares.{adds, shares}
 use Rattle.tally.specs.Entry.{added}
 use Rattle.route.proofs.Numbers.{number-below}
 use Rattle.tally.proofs.Shared.{level-place}
-
-flag-told : (b : Bool) → eqb (flag b) 1 ≡ b
-flag-told true = refl
-flag-told false = refl
 
 -- the answer to event o over table t was written as answer k and read again as a
 module _ (t o places : List ℕ) (k : ℕ) (fits : answerSize * k + answerSize ≤ length places) {p a : List ℕ} (written : p ≡ put places (answerSize * k) (answerRecord records t o)) (read : a ≡ answerIn p k) where
@@ -34,7 +30,7 @@ module _ (t o places : List ℕ) (k : ℕ) (fits : answerSize * k + answerSize �
 
   pub told-lost : {q : List ℕ} {lost : Bool} → q ≡ lostCall a → lost ≡ isLost q → lost ≡ answered records t o .call .present
   unfolding answerRecord records
-  told-lost h g = g ∙ ap isLost h ∙ ap (λ (r : List ℕ). isLost (lostCall r)) same ∙ flag-told (answered records t o .call .present)
+  told-lost h g = g ∙ ap isLost h ∙ ap (λ (r : List ℕ). isLost (lostCall r)) same ∙ flag-back (answered records t o .call .present)
 
 -- what was counted of an event e that the octets o say is its share
 module _ (t o : List ℕ) {e : Event} (says : e ≡ eventAt o) {n l : ℕ} {lost : Bool} (number : n ≡ answered records t o .number) (loses : lost ≡ answered records t o .call .present) (level : l ≡ answered records t o .call .mark .level .0) where

@@ -1,7 +1,7 @@
 -- The lengths of the buffers and the room of the totals settle what the entry gives: what was done, or 20 or 60 and the buffers as they were.
-use Prim.Native.Nat.{ℕ, _*_, _/_, _≤_}
-use mathlib.Core.Path.{_≡_, refl, sym, ap, _∙_}
-use mathlib.Core.Bool.{Bool, true, false, cond, _&&_}
+use Prim.Native.Nat.{ℕ, _/_}
+use mathlib.Core.Path.{_≡_, refl, ap, _∙_}
+use mathlib.Core.Bool.{Bool, true, false, _&&_}
 use mathlib.Core.List.{List, flatten}
 use lib.ListN.{length}
 use lib.Dec.{eqb}

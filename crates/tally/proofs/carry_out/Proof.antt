@@ -1,7 +1,7 @@
 -- The holders, the events, the holders again.
 use native.Mathlib.Omega.{arith}
 use denote.Ref.{now}
-use Rattle.rules.specs.Records.{records, mostEvents}
+use Rattle.rules.specs.Records.{records}
 use Rattle.route.specs.Entries.{eventsTo}
 use Rattle.tally.specs.Places as place
 use Rattle.tally.proofs.Lists.{none-lists, none-start, none-end}

@@ -1,11 +1,11 @@
 -- Table, answers and totals after k events are what the first k events make of them.
-use Prim.Native.Nat.{ℕ, _+_, _*_, _-_, _≤_}
+use Prim.Native.Nat.{_*_, _-_, _≤_}
 use mathlib.Core.Path.{_≡_, refl, sym, ap, ap₂, subst, _∙_}
 use mathlib.Core.List.{List}
 use lib.ListN.{length}
 use denote.Ref.{now}
 use native.Mathlib.Omega.{arith}
-use Rattle.octets.specs.Span.{span, put}
+use Rattle.octets.specs.Span.{put}
 use Rattle.rules.specs.Valid.{valid}
 use Rattle.rules.specs.Run.{after, answered, answerRecord}
 use Rattle.rules.specs.Records.{records, answerSize, eventIn, eventAt}

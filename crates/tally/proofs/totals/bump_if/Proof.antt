@@ -1,7 +1,6 @@
 -- Where it is not so, adding 0 at the place leaves the totals.
-use Prim.Native.Nat.{ℕ}
 use mathlib.Core.Path.{sym, ap, _∙_}
-use mathlib.Core.Bool.{Bool, true, false}
+use mathlib.Core.Bool.{Bool}
 use denote.Ref.{now}
 use Rattle.tally.specs.Shares.{at, one}
 use Rattle.tally.specs.Entry.{added}

@@ -1,15 +1,11 @@
 -- Five places, one after the other.
-use Prim.Native.Nat.{ℕ, _+_, _<_}
-use mathlib.Core.Path.{_≡_, refl, sym, ap, _∙_}
-use mathlib.Core.Bool.{Bool}
-use mathlib.Core.List.{List}
+use Prim.Native.Nat.{_+_}
+use mathlib.Core.Path.{_∙_}
 use native.Mathlib.Omega.{arith}
-use lib.Dec.{eqb}
 use denote.Ref.{now}
 use Rattle.tally.specs.Places as place
 use Rattle.tally.specs.Shares.{at, one as one-of, isRelease, adds}
 use Rattle.tally.specs.Entry.{added}
-use Rattle.tally.proofs.Placed.{at-off}
 use Rattle.tally.proofs.Counted.{has-place, released-place, lost-place, low-added, levels-place, number-place, all-added}
 use borrow.Author.Needs.{needs}
 use Rattle.tally.proofs.totals.count.Statement.{statement}

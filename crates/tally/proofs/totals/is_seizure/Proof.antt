@@ -7,7 +7,6 @@ use lib.Dec.{eqb}
 use borrow.Author.Tests.{eq-eqb, ne-eqb}
 use Rattle.octets.proofs.Tests.{both}
 use Rattle.tally.specs.Shares.{isSeizure}
-use borrow.Author.Needs.{needs}
 use Rattle.tally.proofs.totals.is_seizure.Statement.{statement}
 use Rattle.tally.proofs.totals.is_seizure.Tie as tie
 
