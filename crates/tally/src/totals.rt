@@ -2,7 +2,7 @@
 use rules::number;
 ghost use mathlib.Core.Path.{_≡_};
 ghost use mathlib.Core.Bool.{true, _&&_};
-ghost use Prim.Native.Nat.{_+_, _*_, _<_};
+ghost use Prim.Native.Nat.{_+_, _<_};
 ghost use lib.ListN.{length};
 ghost use Rattle.tally.specs.Places as place;
 ghost use Rattle.tally.specs.Shares.{at, one, isSeizure, adds};
