@@ -50,11 +50,16 @@ impl Day {
         let left = events.len() % EVENT;
         let whole = &events[..events.len() - left];
         let lists: Vec<&[u8]> = if whole.is_empty() { vec![whole] } else { whole.chunks(LIST).collect() };
-        self.start += holders(&table);
+        let start = holders(&table);
+        let before = self.totals[0];
         for list in lists {
             self.full |= figures::figures(&mut table, list, &mut vec![0; list.len()], &mut self.totals) == 60;
         }
-        self.end += holders(&table);
+        // A list that is refused adds nothing, so a table of which no list was added counts for nothing.
+        if self.totals[0] > before {
+            self.start += start;
+            self.end += holders(&table);
+        }
         if left > 0 && !self.full {
             self.shorts += &format!("short {}\n", left);
         }

@@ -158,6 +158,7 @@ cksum ./*.table ./*.events | cmp kept - || die "a file was written"
 zeros 32 >t
 : >none
 zeros 5 >five
+{ printf '\001\004' && zeros 30; } >held.table
 # shellcheck disable=SC2046
 set -- $(yes 't none' | head -n 65535)
 by_name '65,536 lists' t five "$@"
@@ -167,6 +168,8 @@ last ''
 by_name '65,537 lists' "$@" t five t none t none
 last 'short 5 60 '
 by_name '65,537 lists, the last one with a rest' "$@" t none t five
+last '60 '
+by_name '65,537 lists, the last one of a table with holders' "$@" t none held.table none
 last '60 '
 by_name '65,537 lists, the last two of one table' "$@" lists.table lists.events t five
 last '60 '
