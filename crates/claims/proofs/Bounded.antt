@@ -1,5 +1,5 @@
 -- The totals never overflow: lists one after another add at most 4,096 each to a total, and 60 comes after 65,536 of them and not before.
-use Prim.Native.Nat.{ℕ, zero, suc, _+_, _*_, _<_, _≤_}
+use Prim.Native.Nat.{ℕ, _+_, _*_, _≤_}
 use mathlib.Core.Path.{_≡_, refl, sym, ap, _∙_, subst}
 use mathlib.Core.Logic.{_↔_}
 use mathlib.Core.Bool.{Bool, true, cond, _&&_, and-true}
@@ -9,18 +9,19 @@ use native.Mathlib.Nat.{zero-add, add-zero}
 use native.Mathlib.Omega.{arith}
 use lib.ListN.{length, List·getD-eq-default, length-replicate}
 use lib.Dec.{eqb, ltb}
-use borrow.Author.Tests.{ltb-true, ltb-false, lt-ltb, le-ltb, eq-eqb, ne-eqb}
-use Rattle.octets.proofs.Tests.{and-left, and-both, by-so}
+use borrow.Author.Tests.{ltb-false, le-ltb, eq-eqb, ne-eqb}
+use Rattle.octets.proofs.Tests.{by-so}
 use Rattle.octets.proofs.Spans.{empty-agree}
 use Rattle.rules.specs.Records.{records, mostEvents}
 use Rattle.rules.proofs.Records.{lawful}
 use Rattle.route.specs.Entries.{eventsIn}
 use Rattle.tally.specs.Places as place
 use Rattle.tally.specs.Shares.{one, listAdds}
-use Rattle.tally.specs.Entry.{mostLists, full, belowTo, hasRoom, figuresLengths, figuresNumber, isAdded, figuresTotals}
+use Rattle.tally.specs.Entry.{mostLists, full, hasRoom, figuresLengths, figuresNumber, isAdded, figuresTotals}
 use Rattle.tally.proofs.Lists.{length-events, list-lists, list-most}
 use Rattle.claims.specs.Figures.{total, noFigures, TableList, addList, numberOf, totalsAfter, carriedOut, NeverFull}
 use Rattle.claims.proofs.Carried.{carried-out}
+use Rattle.claims.proofs.Settled.{below-all, has-room}
 use Rattle.claims.proofs.Added.{not-done, not-added, list-done, figures-done, had-room, many-totals, total-added}
 
 -- what totals are after n lists that were added
@@ -29,11 +30,6 @@ record After (f : List ℕ) (n : ℕ) : Type 0 where
   pub counted : total f place.lists ≡ n
   pub most : n ≤ mostLists
   pub each : (j : ℕ) → total f j ≤ mostEvents * n
-
-room-below : (f : List ℕ) → hasRoom f ≡ true → total f place.lists < mostLists
-unfolding hasRoom
-room-below f h =
-    ltb-true (total f place.lists) mostLists (and-left (ltb (total f place.lists) mostLists) (belowTo full f place.figures) h)
 
 module _ (t es places f : List ℕ) (h : isAdded t es places f ≡ true) where
   abbrev g : List ℕ
@@ -56,7 +52,7 @@ module _ (t es places f : List ℕ) (h : isAdded t es places f ≡ true) where
       record {
         many = many-totals t es places f h;
         counted = omega (arith, total-added t es places f h place.lists (omega arith), list-lists records t (eventsIn es), before .counted);
-        most = omega (arith, room-below f (had-room t es places f h), before .counted);
+        most = omega (arith, has-room f .0 (had-room t es places f h) .lists, before .counted);
         each = more;
       }
 
@@ -78,16 +74,12 @@ carried-after (l ∷ ls) f n h =
     subst (After (totalsAfter (addList f l) ls)) (omega arith) (carried-after ls (addList f l) (one (eqb (numberOf f l) 0) + n) (carried-one f l n h))
 
 -- ---- another list, where each total is below 2^64 - 4,096
-below-all : (m : ℕ) (f : List ℕ) → ((j : ℕ) → total f j < m) → (k : ℕ) → belowTo m f k ≡ true
-below-all m f h zero = refl
-below-all m f h (suc k) = and-both (belowTo m f k) (ltb (total f k) m) (below-all m f h k) (lt-ltb (total f k) m (h k))
-
 module _ (f : List ℕ) (n : ℕ) (h : After f n) where
   -- the count of lists alone decides
   room-so : hasRoom f ≡ ltb n mostLists
   unfolding hasRoom
   room-so =
-      let below = below-all full f (λ j. omega (arith, h .each j, h .most)) place.figures in
+      let below = below-all full f place.figures (λ j l. omega (arith, h .each j, h .most)) in
       ap (λ (b : Bool). ltb (total f place.lists) mostLists && b) below ∙ and-true (ltb (total f place.lists) mostLists) ∙ ap (λ (k : ℕ). ltb k mostLists) (h .counted)
 
   exactly : (t es places : List ℕ) → figuresLengths t es places f ≡ true → (figuresNumber t es places f ≡ 60) ↔ (n ≡ mostLists)

@@ -17,7 +17,7 @@ found-right : (b : Bool) → _≡_ {A = ℕ} (cond b 0 20) 0 → b ≡ true
 found-right true h = refl
 found-right false h = absurd (omega arith)
 
-right-lengths : (t es places : List ℕ) → listLengths t es places ≡ true → RightLengths t es places
+pub right-lengths : (t es places : List ℕ) → listLengths t es places ≡ true → RightLengths t es places
 unfolding listLengths tableLength listLength
 right-lengths t es places h =
     let lengths = halves h in
@@ -39,7 +39,7 @@ right-lengths t es places h =
       answers = eqb-true (length places) (answerSize * (length es / eventSize)) (rest .1);
     }
 
-lengths-right : (t es places : List ℕ) → RightLengths t es places → listLengths t es places ≡ true
+pub lengths-right : (t es places : List ℕ) → RightLengths t es places → listLengths t es places ≡ true
 unfolding listLengths tableLength listLength
 lengths-right t es places r =
     let some : 1 ≤ circuits t = omega (arith, r .some) in

@@ -19,6 +19,7 @@ pub mod Alone
 pub mod Checked
 pub mod Filled
 pub mod Carried
+pub mod Settled
 pub mod Added
 pub mod Closing
 pub mod Closed

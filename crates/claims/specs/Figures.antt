@@ -17,6 +17,7 @@ use Rattle.tally.specs.Shares.{one, holders}
 use Rattle.tally.specs.Entry.{tooManyLists, mostLists, figuresLengths, figuresNumber, figuresTable, figuresAnswers, figuresTotals}
 use Rattle.claims.specs.History.{Turn, asked, history}
 use Rattle.claims.specs.Lists.{EventList, turns, tableAfter, past}
+use Rattle.claims.specs.OneByOne.{RightLengths}
 
 abbrev pub total : List ℕ → ℕ → ℕ  -- total j
 total f j = getD f j 0
@@ -143,6 +144,25 @@ module _ (ls : List TableList) where
 
 abbrev pub NeverFull : Type 0
 NeverFull = (ls : List TableList) → Bounded ls
+
+-- another list may be added to the totals f: fewer than 65,536 lists were, and each of the 95 is below 2^64 - 4,096
+pub record Room (f : List ℕ) : Type 0 where
+  pub lists : total f place.lists < mostLists
+  pub each : (j : ℕ) → j < place.figures → total f j < 18446744073709547520
+
+-- table, events and answer places have the lengths of a list, and there are 95 totals
+abbrev pub RightFigures : List ℕ → List ℕ → List ℕ → List ℕ → Type 0
+RightFigures t es places f = RightLengths t es places × (length f ≡ place.figures)
+
+-- "Refusals: 60 for a list too many, after 20": 20 comes exactly if a length is wrong, 60 exactly if the lengths are right and there is no
+-- room, and 0 exactly if the lengths are right and there is room
+pub record Settles (t es places f : List ℕ) : Type 0 where
+  pub done : (figuresNumber t es places f ≡ number.done) ↔ (RightFigures t es places f × Room f)
+  pub many : (figuresNumber t es places f ≡ tooManyLists) ↔ (RightFigures t es places f × (Room f → ⊥))
+  pub wrong : (figuresNumber t es places f ≡ number.wrongLength) ↔ (RightFigures t es places f → ⊥)
+
+abbrev pub Settled : Type 0
+Settled = (t es places f : List ℕ) → Settles t es places f
 
 -- a list that is added leaves the table and the answers that the list entry leaves
 abbrev pub SameAsList : Type 0
