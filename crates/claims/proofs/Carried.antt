@@ -1,11 +1,10 @@
 -- A list is carried out exactly at right lengths.
 use Prim.Native.Nat.{ℕ, _/_, _%_, _≤_, _*_}
 use mathlib.Core.Path.{_≡_, refl, ap}
-use mathlib.Core.Bool.{Bool, true, false, cond, _&&_}
+use mathlib.Core.Bool.{Bool, true, false, cond}
 use mathlib.Core.List.{List}
 use native.Mathlib.Omega.{arith}
 use lib.ListN.{length}
-use lib.Dec.{eqb, leb}
 use borrow.Author.Tests.{eqb-true, leb-true, eq-eqb, le-leb}
 use Rattle.octets.proofs.Tests.{halves, and-both}
 use Rattle.rules.specs.Records.{tableLength, listLength, circuits, circuitSize, mostCircuits, eventSize, mostEvents, answerSize}

@@ -26,4 +26,6 @@ pub mod Closed
 pub mod Bounded
 pub mod Rows
 pub mod Once
+pub mod Turns
+pub mod Told
 pub mod Losers

@@ -6,10 +6,9 @@ use mathlib.Core.Bool.{Bool, true, false, cond, true≢false}
 use mathlib.Core.List.{List}
 use native.Mathlib.Omega.{arith}
 use lib.ListN.{length}
-use lib.Dec.{eqb, ltb}
+use lib.Dec.{ltb}
 use borrow.Author.Tests.{eqb-true, eq-eqb, ltb-true, lt-ltb}
 use Rattle.octets.proofs.Tests.{halves, and-both}
-use Rattle.route.specs.Entries.{listLengths}
 use Rattle.tally.specs.Places as place
 use Rattle.tally.specs.Entry.{mostLists, full, belowTo, hasRoom, figuresLengths, figuresNumber}
 use Rattle.tally.proofs.Rooms.{below-each}

@@ -5,12 +5,14 @@
 use Prim.Native.Nat.{ℕ, zero, suc, _+_, _*_, _/_, _<_, _≤_}
 use mathlib.Core.Path.{_≡_}
 use mathlib.Core.Logic.{_↔_, _≢_}
-use mathlib.Core.Bool.{Bool, true, _&&_}
+use mathlib.Core.Bool.{Bool, true, _&&_, _||_}
 use mathlib.Core.List.{List, [], _∷_, _++_}
 use lib.ListN.{length, getD, replicate}
 use lib.Dec.{eqb}
 use Rattle.rules.specs.Numbers as number
-use Rattle.rules.specs.Records.{records, eventSize, mostEvents, answerDetail, lostCall, isLost, emptyTable}
+use Rattle.rules.specs.declared.circuit.Circuit.{Circuit}
+use Rattle.rules.specs.Run.{run}
+use Rattle.rules.specs.Records.{circuitAt, records, eventSize, mostEvents, answerNumber, answerDetail, lostCall, isLost, emptyTable}
 use Rattle.route.specs.Entries.{listNumber, listTable, listAnswers}
 use Rattle.tally.specs.Places as place
 use Rattle.tally.specs.Shares.{one, holders}
@@ -105,16 +107,47 @@ EachOnce = (t es places f : List ℕ) → figuresNumber t es places f ≡ number
 abbrev pub LostOnce : Type 0
 LostOnce = (t es places f : List ℕ) → figuresNumber t es places f ≡ number.done → GrowsByLosses t es places f
 
--- at turn p, which came after the turns before, a set-up of the taker's level took a circuit from a holder whom the history shows there
--- under the loser's level
-abbrev pub lostBy : ℕ → ℕ → List Turn → Turn → Bool
-lostBy taker loser before p =
-    isLost (lostCall (p .answer))
-    && (eqb (asked p .mark .level .0) taker && eqb (history before (answerDetail (p .answer)) .holder .mark .level .0) loser)
-
-abbrev pub countTurns : (List Turn → Turn → Bool) → List Turn → List Turn → ℕ  -- of how many turns, which came after those before, this holds
+-- ---- the totals by the turns of the list: its events, each with the answer left for it
+-- of how many turns, which came after those before, this holds
+abbrev pub countTurns : (List Turn → Turn → Bool) → List Turn → List Turn → ℕ
 countTurns f before [] = 0
 countTurns f before (p ∷ ps) = one (f before p) + countTurns f (before ++ p ∷ []) ps
+
+abbrev pub countOf : (Turn → Bool) → List Turn → ℕ  -- of how many turns this holds, whatever came before each
+countOf f = countTurns (λ before. f) []
+
+abbrev pub answeredBy : ℕ → Turn → Bool  -- the answer's number is k
+answeredBy k p = eqb (answerNumber (p .answer)) k
+
+abbrev pub seizes : Turn → Bool  -- the event is a set-up, and it was answered by 1 or 2
+seizes p = eqb (asked p .kind) 1 && (answeredBy number.seized p || answeredBy number.seizedWithLoss p)
+
+abbrev pub namesLost : Turn → Bool  -- the answer's octet 4 is 1: it names a holder that was lost
+namesLost p = isLost (lostCall (p .answer))
+
+-- "with holders counted in the two tables and the rest from events and answers, none as the remainder", "events by answer number":
+-- a list l over any table t, valid or not, leaves the table u and makes the totals f the totals g. A release is an event answered by 5
+pub record GrowsByTurns (t : List ℕ) (l : EventList) (f u g : List ℕ) : Type 0 where
+  pub all : length g ≡ place.figures
+  pub lists : total g place.lists ≡ total f place.lists + 1
+  pub start : total g place.start ≡ total f place.start + holders records t
+  pub seized : total g place.seized ≡ total f place.seized + countOf seizes (turns t l)
+  pub released : total g place.released ≡ total f place.released + countOf (answeredBy number.released) (turns t l)
+  pub lost : total g place.lost ≡ total f place.lost + countOf namesLost (turns t l)
+  pub end : total g place.end ≡ total f place.end + holders records u
+  pub answered : (k : ℕ) → k < 64 → total g (place.answered k) ≡ total f (place.answered k) + countOf (answeredBy k) (turns t l)
+
+abbrev pub FromAnswers : Type 0
+FromAnswers =
+    (t : List ℕ) (l : EventList) (f : List ℕ) → figuresNumber t (l .events) (l .places) f ≡ number.done
+    → GrowsByTurns t l f (figuresTable t (l .events) (l .places) f) (figuresTotals t (l .events) (l .places) f)
+
+-- at turn p, which came after the turns before, a set-up of the taker's level took a circuit from a holder who is shown there just before
+-- it under the loser's level
+abbrev pub lostBy : (List Turn → ℕ → Circuit) → ℕ → ℕ → List Turn → Turn → Bool
+lostBy shows taker loser before p =
+    namesLost p
+    && (eqb (asked p .mark .level .0) taker && eqb (shows before (answerDetail (p .answer)) .holder .mark .level .0) loser)
 
 -- "by the taker's level and the loser's": the loser's level is the one that the history shows
 abbrev pub LevelShown : Type 0
@@ -124,7 +157,22 @@ LevelShown =
     figuresNumber t (l .events) (l .places) f ≡ number.done
     → (taker loser : ℕ) → taker < 5 → loser < 5
     → total (figuresTotals t (l .events) (l .places) f) (place.lostByLevel taker loser)
-    ≡ total f (place.lostByLevel taker loser) + countTurns (lostBy taker loser) (past (emptyTable n) lists) (turns t l)
+    ≡ total f (place.lostByLevel taker loser) + countTurns (lostBy history taker loser) (past (emptyTable n) lists) (turns t l)
+
+abbrev pub eventsOf : List Turn → List (List ℕ)  -- the events of turns
+eventsOf [] = []
+eventsOf (p ∷ ps) = p .event ∷ eventsOf ps
+
+abbrev pub stands : List ℕ → List Turn → ℕ → Circuit  -- circuit c as it stands in table t after the events of these turns
+stands t before c = circuitAt (run records t (eventsOf before)) c
+
+-- the same over any table t: the loser's level is the one under which the holder stands in the table just before the event
+abbrev pub LevelStood : Type 0
+LevelStood =
+    (t : List ℕ) (l : EventList) (f : List ℕ) → figuresNumber t (l .events) (l .places) f ≡ number.done
+    → (taker loser : ℕ) → taker < 5 → loser < 5
+    → total (figuresTotals t (l .events) (l .places) f) (place.lostByLevel taker loser)
+    ≡ total f (place.lostByLevel taker loser) + countTurns (lostBy (stands t) taker loser) [] (turns t l)
 
 -- "64-bit totals that never overflow, at most 65,536 lists": totals from zeros after any lists over any tables, refused ones too
 module _ (ls : List TableList) where
