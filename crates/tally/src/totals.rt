@@ -78,6 +78,18 @@ fn lost_by_level(taker: u8, loser: u8) -> usize
     LOST_BY_LEVEL + 5 * taker as usize + loser as usize
 }
 
+// Counts an event as a seizure, as a release and as a loss of a holder, if it is one.
+fn count_as(totals: &mut [u64], seizure: bool, release: bool, lost: bool)
+    requires { ⌜ HasRoomFor 1 (now totals) ⌝ }
+    ensures { λ _. ⌜ now (totals .exit)
+        ≡ added (λ j. at place.seized (one seizure) j + at place.released (one release) j + at place.lost (one lost) j)
+        (now (totals .entry)) ⌝ }
+{
+    bump_if(totals, SEIZED, seizure);
+    bump_if(totals, RELEASED, release);
+    bump_if(totals, LOST, lost);
+}
+
 // Counts an event of this kind and level that was answered by this number; `lost` says whether a holder was lost by it, and `loser` under which
 // level that one stood.
 pub fn count(totals: &mut [u64], kind: u8, taker: u8, number: u8, lost: bool, loser: u8)
@@ -86,9 +98,12 @@ pub fn count(totals: &mut [u64], kind: u8, taker: u8, number: u8, lost: bool, lo
     requires { ⌜ (lost ≡ true → place.lostByLevel taker loser < 31) ⌝ }
     ensures { λ _. ⌜ now (totals .exit) ≡ added (adds kind taker number lost loser) (now (totals .entry)) ⌝ }
 {
-    bump_if(totals, SEIZED, is_seizure(kind, number));
-    bump_if(totals, RELEASED, number == number::RELEASED);
-    bump_if(totals, LOST, lost);
+    count_as(
+        totals,
+        is_seizure(kind, number),
+        number == number::RELEASED,
+        lost,
+    );
     bump_if(totals, lost_by_level(taker, loser), lost);
     bump_if(totals, ANSWERED + number as usize, true);
 }
