@@ -8,7 +8,6 @@ use native.Mathlib.Omega.{arith}
 use lib.ListN.{length, getD, List·getD-append}
 use lib.Seq.{getD-append-add}
 use lib.Dec.{eqb}
-use Rattle.octets.specs.Span.{span}
 use Rattle.octets.proofs.Spans.{grow, span-cong, span-all}
 use Rattle.rules.specs.Numbers.{wrongLength}
 use Rattle.rules.specs.Run.{answerRecord}

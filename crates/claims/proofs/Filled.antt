@@ -1,10 +1,9 @@
 -- An answer other than 2 and 4 names no loser.
 use Prim.Native.Nat.{ℕ, _<_}
-use mathlib.Core.Path.{_≡_, refl, ap, ap₂, _∙_}
+use mathlib.Core.Path.{_≡_, refl, ap, _∙_}
 use mathlib.Core.Logic.{_≢_}
 use mathlib.Core.Bool.{Bool, true, false, cond, _||_}
-use mathlib.Core.List.{List, _++_}
-use Rattle.octets.specs.Span.{span}
+use mathlib.Core.List.{List}
 use Rattle.octets.proofs.Tests.{by-so, by-test}
 use Rattle.rules.specs.declared.part.Part.{Part}
 use Rattle.rules.specs.declared.circuit.Circuit.{Circuit}

@@ -1,14 +1,11 @@
 -- The first accident cannot happen: what is not there by the history is zero on record.
-use Prim.Native.Nat.{ℕ, _+_, _*_}
+use Prim.Native.Nat.{ℕ}
 use mathlib.Core.Path.{_≡_, sym, ap, _∙_}
 use mathlib.Core.Bool.{Bool, true, false, cond, _&&_}
 use mathlib.Core.List.{List}
 use native.Mathlib.Omega.{arith}
-use lib.ListN.{getD, replicate}
-use lib.Dec.{eqb}
-use Rattle.octets.specs.Span.{span, zeros}
+use Rattle.octets.specs.Span.{zeros}
 use Rattle.octets.proofs.Tests.{and-left, and-right}
-use Rattle.octets.proofs.Spans.{length-span, zeros-all}
 use Rattle.rules.specs.declared.part.Part.{Part}
 use Rattle.rules.specs.declared.circuit.Circuit.{Circuit}
 use Rattle.rules.specs.Records.{circuitAt, zeroIfAbsent, blankAt, records, holderOctets, reservationOctets, spareOctets, emptyTable}

@@ -8,7 +8,6 @@ use native.Mathlib.Omega.{arith}
 use lib.ListN.{length}
 use lib.Dec.{eqb}
 use borrow.Author.Tests.{ne-eqb}
-use Rattle.octets.specs.Span.{span}
 use Rattle.octets.proofs.Tests.{by-eq, by-so}
 use Rattle.octets.proofs.Spans.{span-all}
 use Rattle.rules.specs.declared.part.Part.{Part}

@@ -7,7 +7,6 @@ use mathlib.Core.List.{List}
 use native.Mathlib.Omega.{arith}
 use lib.Dec.{eqb, leb}
 use borrow.Author.Tests.{leb-true, le-leb}
-use Rattle.octets.specs.Span.{span}
 use Rattle.octets.proofs.Tests.{and-right, and-both, not-so, by-so, by-test}
 use Rattle.octets.proofs.Width.{value-octets}
 use Rattle.octets.proofs.Spans.{length-span}

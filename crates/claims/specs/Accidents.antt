@@ -1,11 +1,10 @@
 -- The customer's two accidents cannot happen: a mark left on a circuit whose party is gone, and a reservation gone for no reason. Nor is
 -- a holder gone for none, and no call is in two parts.
-use Prim.Native.Nat.{ℕ, _+_, _*_, _-_, _%_, _<_, _≤_}
+use Prim.Native.Nat.{ℕ, _+_, _-_, _%_, _<_, _≤_}
 use mathlib.Core.Path.{_≡_}
 use mathlib.Core.Logic.{_⊎_}
 use mathlib.Core.Bool.{true, false}
 use mathlib.Core.List.{List, [], _∷_, _++_}
-use lib.ListN.{replicate}
 use Rattle.octets.specs.Span.{zeros}
 use Rattle.rules.specs.Numbers as number
 use Rattle.rules.specs.declared.part.Part.{Part}

@@ -1,8 +1,8 @@
 -- Lists of events are given to the list entry one after another, and leave a past.
-use Prim.Native.Nat.{ℕ, zero, suc, _*_, _/_}
+use Prim.Native.Nat.{ℕ, zero, suc, _/_}
 use mathlib.Core.Bool.{cond}
 use mathlib.Core.List.{List, [], _∷_, _++_}
-use lib.ListN.{length, replicate}
+use lib.ListN.{length}
 use lib.Dec.{eqb}
 use Rattle.rules.specs.Numbers.{done}
 use Rattle.rules.specs.Records.{eventSize, eventIn, answerIn}
