@@ -11,7 +11,7 @@ use Rattle.rules.specs.declared.event.Event.{Event}
 use Rattle.rules.specs.declared.search.Found.{Found}
 use Rattle.rules.specs.declared.search.Found.the-variants.{At, Nothing}
 use Rattle.rules.specs.declared.outcome.Act.the-variants.{Seize, Reserve, Release, Cancel}
-use Rattle.rules.specs.declared.outcome.Refusal.the-variants.{Malformed, TableNotValid, NotAllowed, ByRoutine, AlreadyThere, MarkDiffers, HolderNotLower, NotThere, NoCircuitToReserve}
+use Rattle.rules.specs.declared.outcome.Refusal.the-variants.{Malformed, NotAllowed, ByRoutine, AlreadyThere, MarkDiffers, HolderNotLower, NotThere, NoCircuitToReserve}
 use Rattle.rules.specs.declared.outcome.Outcome.{Outcome}
 use Rattle.rules.specs.declared.outcome.Outcome.the-variants.{Refuse, Do, Clock}
 use Rattle.rules.specs.Fields.{allowed}
@@ -21,8 +21,9 @@ use Rattle.rules.specs.Choice.{heldBy, reservedBy, choice}
 use Rattle.rules.specs.Event.{marked, wellFormed}
 use Rattle.rules.specs.Decision.{standsNowhere, onReservation, blocked, setUp, lookAhead, release, cancel, decision}
 use Rattle.rules.specs.Layout.{Layout}
-use Rattle.rules.specs.Valid.{valid}
+use Rattle.rules.specs.Valid.{verdict}
 use Rattle.rules.specs.Run.{outcomeOf}
+use Rattle.rules.proofs.Faults.{by-verdict}
 use Rattle.rules.proofs.Searches.{by-first}
 use Rattle.rules.proofs.Choice.{ChoiceIs, choice-is}
 
@@ -129,5 +130,5 @@ unfolding outcomeOf
 decided L s e =
     let P = Grounds (L .view s) (L .count s) e in
     by-test P (wellFormed e) _ (Refuse Malformed)
-    (λ w. by-test P (valid L s) (decision (L .view s) (L .count s) e) (Refuse TableNotValid) (λ v. grounds (L .view s) (L .count s) e w) (λ v. tt))
+    (λ w. by-verdict P (verdict L s) (decision (L .view s) (L .count s) e) (λ v. grounds (L .view s) (L .count s) e w) (λ r i f. tt))
     (λ w. tt)

@@ -21,7 +21,15 @@ pub const WRONG_LENGTH: u8 = 20;
 
 pub const MALFORMED: u8 = 22;
 
-pub const TABLE_NOT_VALID: u8 = 21;
+pub const FLAG_OR_LEVEL: u8 = 41;
+
+pub const DIGIT_OR_POINT_CODE: u8 = 42;
+
+pub const NOT_ZERO: u8 = 43;
+
+pub const NOT_ABOVE_HOLDER: u8 = 44;
+
+pub const REPEATED_REFERENCE: u8 = 45;
 
 pub const LOOK_AHEAD_NOT_ALLOWED: u8 = 23;
 

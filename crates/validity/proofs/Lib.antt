@@ -1,3 +1,2 @@
-pub mod Faults
 pub mod Orders
 pub mod Determined

@@ -1,10 +1,12 @@
-// The check of a table finds its first fault, and gives a number. Each record is first looked at part by part, which is quick;
+// The check of a table finds its first fault, and gives its reason and its record. Each record is first looked at part by part, which is quick;
 // the reasons are gone through, in their order, only where that finds something.
+use rules::answer::NO_DETAIL;
 use rules::circuit::Circuit;
 use rules::number;
 use rules::part::Part;
 use rules::part::Reference;
 use rules::search::Found;
+use rules::verdict::Check;
 use rules::verdict::Reason;
 use rules::verdict::Verdict;
 ghost use mathlib.Core.Path.{_≡_};
@@ -12,10 +14,11 @@ ghost use mathlib.Core.Bool.{_&&_};
 ghost use Prim.Native.Nat.{_+_, _/_, _<_, _≤_};
 ghost use lib.ListN.{length};
 ghost use Rattle.rules.specs.Fields.{levelOk, decimal, pointCodeOk};
-ghost use Rattle.rules.specs.Valid.{ifPresent, levelsOk, fieldsOk, pairOk, isValid, verdictNumber, recordVerdict, recordsTo, partsTo};
+ghost use Rattle.rules.specs.Valid.{ifPresent, levelsOk, fieldsOk, pairOk, isValid, checkOf, recordVerdict, recordsTo, partsTo};
 ghost use Rattle.rules.specs.Search.{firstTo};
+ghost use Rattle.rules.specs.Answer.{noDetail};
 ghost use Rattle.rules.specs.Valid as rule;
-ghost use Rattle.rules.specs.Records.{circuitAt, circuits, flagsAt, records, checkNumber, holderOctets, reservationOctets};
+ghost use Rattle.rules.specs.Records.{circuitAt, circuits, flagsAt, records, checked, holderOctets, reservationOctets};
 ghost use Rattle.validity.specs.Order.{partInOrder, inOrder, outOfOrder};
 ghost use Rattle.validity.specs.Order as order;
 
@@ -231,29 +234,32 @@ pub fn verdict(t: &[u8]) -> Verdict
     if is_valid(v) { each_reference(t) } else { v }
 }
 
-// Tells whether the table has no fault.
-pub fn valid(t: &[u8]) -> bool
-    ensures { λ r. ⌜ r ≡ rule.valid records (now (t .entry)) ⌝ }
-{
-    is_valid(verdict(t))
-}
-
-// Gives the number that the check returns for a verdict.
-fn number(v: Verdict) -> u8
-    ensures { λ r. ⌜ r ≡ verdictNumber v ⌝ }
+// Gives what the check returns for a verdict on a table of right length.
+fn check_of(v: Verdict) -> Check
+    requires { ⌜ checkOf v .detail ≤ noDetail ⌝ }
+    ensures { λ r. ⌜ r ≡ checkOf v ⌝ }
 {
     match v {
-        Verdict::Valid => number::DONE,
-        Verdict::Fault(_, _) => number::TABLE_NOT_VALID,
+        Verdict::Valid => Check {
+            number: number::DONE,
+            detail: NO_DETAIL,
+        },
+        Verdict::Fault(r, i) => Check {
+            number: r.number(),
+            detail: i as u16,
+        },
     }
 }
 
-// Gives 0 for a valid table, 20 for a wrong length, 21 for a table that is not valid.
-pub fn check(t: &[u8]) -> u8
-    ensures number { λ r. ⌜ r ≡ checkNumber (now (t .entry)) ⌝ }
+// Gives 0 for a valid table, 20 for a wrong length, else the reason and the record of the first fault.
+pub fn check(t: &[u8]) -> Check
+    ensures reading { λ r. ⌜ r ≡ checked (now (t .entry)) ⌝ }
 {
     if !table::right_length(t.len()) {
-        return number::WRONG_LENGTH;
+        return Check {
+            number: number::WRONG_LENGTH,
+            detail: NO_DETAIL,
+        };
     }
-    number(verdict(t))
+    check_of(verdict(t))
 }

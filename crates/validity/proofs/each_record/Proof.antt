@@ -10,8 +10,8 @@ use Rattle.rules.specs.Search.{firstTo, found}
 use Rattle.rules.specs.Valid.{recordVerdict, recordsTo}
 use Rattle.rules.specs.Records.{records, circuits}
 use Rattle.rules.proofs.Searches.{FirstIs, first-is}
+use Rattle.rules.proofs.FirstFault.{first-fault}
 use Rattle.validity.specs.Order.{outOfOrder}
-use Rattle.validity.proofs.Faults.{first-fault}
 use Rattle.validity.proofs.Orders.{out-of-order}
 use Rattle.validity.proofs.each_record.Statement.{statement}
 use Rattle.validity.proofs.each_record.Tie as tie

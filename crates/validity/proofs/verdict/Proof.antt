@@ -6,7 +6,7 @@ use Rattle.rules.specs.declared.verdict.Verdict.{Verdict}
 use Rattle.rules.specs.Valid.{orFault, isValid, partsTo, verdict}
 use Rattle.rules.specs.Records.{records, circuits}
 use Rattle.rules.proofs.Faults.{valid-is}
-use Rattle.validity.proofs.Faults.{fault-first}
+use Rattle.rules.proofs.FirstFault.{fault-first}
 use Rattle.validity.proofs.verdict.Statement.{statement}
 use Rattle.validity.proofs.verdict.Tie as tie
 
