@@ -1,6 +1,5 @@
 // This crate says what is answered to an event.
 use rules::answer::Answer;
-use rules::answer::NO_DETAIL;
 use rules::circuit::Circuit;
 use rules::event::Event;
 use rules::number;
@@ -119,7 +118,7 @@ pub fn answered(t: &[u8], e: Event, o: Outcome) -> Answer
     ensures { λ r. ⌜ r ≡ answerOf (circuitAt (now (t .entry))) (circuits (now (t .entry))) e o ⌝ }
 {
     match o {
-        Outcome::Refuse(r) => no_loser(r.number(), NO_DETAIL),
+        Outcome::Refuse(r) => no_loser(r.number(), r.detail()),
         Outcome::Do(a, i) => acted(e, a, i as u16, table::circuit_at(t, i)),
         Outcome::Clock => no_loser(number::CLOCK_TAKEN, removed(t, e.clock)),
     }

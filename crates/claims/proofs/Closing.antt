@@ -107,12 +107,11 @@ module _ (x y : ℕ → Circuit) (n : ℕ) (e : Event) where
 module _ {S : Type 0} (L : Layout S) (W : Lawful L) (s : S) (e : List ℕ) where
   -- what becomes of each circuit: over a table that is not valid it stays
   view-always : (c : ℕ) → c < L .count s → L .view (after L s e) c ≡ becomes (L .event e) (outcomeOf L s (L .event e)) c (L .view s c)
+  unfolding after effect
   view-always c l =
       let ev = L .event e in
       by-so (valid L s) (λ v. view-after L W s e v c l)
-      (λ v.
-      let r = not-valid-refused L s ev v in
-      ap (λ (u : S). L .view u c) (refused-stays L s e (cond (wellFormed ev) TableNotValid Malformed) r) ∙ sym (ap (λ (o : Outcome). becomes ev o c (L .view s c)) r))
+      (λ v. not-valid-refused L (λ o. L .view (effect L s ev o) c ≡ becomes ev o c (L .view s c)) s ev v (λ r. refl))
 
   pub event-closes : let a = answered L s e in holders L s + one (isSeizure (L .event e .kind) (a .number)) ≡ one (isRelease (a .number)) + one (a .call .present) + holders L (after L s e)
   unfolding holders answered

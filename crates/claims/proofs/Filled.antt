@@ -55,9 +55,7 @@ answered-no-loser t e a b =
     by-so (valid records t)
     (λ v.
     no-loser (circuitAt t) (circuits t) (λ i l. lawful .tidy-view t i (valid-facts records t v .blank i l)) (eventAt e) (outcomeOf records t (eventAt e)) (decided records t (eventAt e)) a b)
-    (λ v.
-    let r = ap (answerOf (circuitAt t) (circuits t) (eventAt e)) (not-valid-refused records t (eventAt e) v) in
-    (ap (λ (z : Answer). z .call) r, ap (λ (z : Answer). z .reservation) r))
+    (λ v. not-valid-refused records (λ o. NoLoser (answerOf (circuitAt t) (circuits t) (eventAt e) o)) t (eventAt e) v (λ r. (refl, refl)))
 
 pub only-two-and-four : OnlyTwoAndFour
 unfolding records answerRecord

@@ -9,16 +9,18 @@ use rules::parameter;
 use rules::part::Part;
 use rules::part::Reference;
 use rules::search::Found;
+use rules::verdict::Verdict;
 ghost use mathlib.Core.Path.{_≡_};
 ghost use mathlib.Core.Bool.{true, false, not, _||_};
+ghost use Prim.Native.Nat.{_≤_};
 ghost use Rattle.rules.specs.Search.{found};
 ghost use Rattle.rules.specs.Circuit.{outranks};
 ghost use Rattle.rules.specs.Choice.{heldBy, reservedBy, choice};
 ghost use Rattle.rules.specs.Decision.{onReservation, blocked, setUpUnheld, setUp, standsNowhere, lookAhead, release, cancel};
 ghost use Rattle.rules.specs.Decision as rule;
-ghost use Rattle.rules.specs.Valid.{valid};
+ghost use Rattle.rules.specs.Valid as table;
 ghost use Rattle.rules.specs.Run.{outcomeOf};
-ghost use Rattle.rules.specs.Records.{circuits, circuitAt, records};
+ghost use Rattle.rules.specs.Records.{circuits, circuitAt, mostCircuits, records};
 ghost use Rattle.rules.specs.Ready.{Ready};
 
 // Tells whether nobody holds the circuit, or one whom the mark outranks.
@@ -155,17 +157,18 @@ fn decision(t: &[u8], e: Event) -> Outcome
     }
 }
 
-// Decides an event over a table; `intact` says whether the table is valid.
-pub fn outcome_of(t: &[u8], e: Event, intact: bool) -> Outcome
-    requires { ⌜ intact ≡ valid records (now t) ⌝ }
+// Decides an event over a table, of which the verdict is known.
+pub fn outcome_of(t: &[u8], e: Event, verdict: Verdict) -> Outcome
+    requires { ⌜ circuits (now t) ≤ mostCircuits ⌝ }
+    requires { ⌜ verdict ≡ table.verdict records (now t) ⌝ }
     ensures outcome { λ r. ⌜ r ≡ outcomeOf records (now (t .entry)) e ⌝ }
     ensures ready { λ r. ⌜ Ready (now (t .entry)) r ⌝ }
 {
     if !e.well_formed() {
         return Outcome::Refuse(Refusal::Malformed);
     }
-    if !intact {
-        return Outcome::Refuse(Refusal::TableNotValid);
+    match verdict {
+        Verdict::Valid => decision(t, e),
+        Verdict::Fault(r, i) => Outcome::Refuse(Refusal::BadRecord(r, i as u16)),
     }
-    decision(t, e)
 }

@@ -12,15 +12,10 @@ use Rattle.octets.proofs.Tests.{and-left, and-right}
 use Rattle.octets.proofs.Spans.{span-all, put-whole}
 use Rattle.rules.specs.Numbers.{wrongLength}
 use Rattle.rules.specs.Run.{after, answered, answerRecord, run, answerRecords}
-use Rattle.rules.specs.Records.{records, tableLength, listLength, circuits, circuitSize, mostCircuits, eventSize, mostEvents, answerSize, eventIn}
+use Rattle.rules.specs.Records.{records, tableLength, listLength, circuits, mostCircuits, eventSize, mostEvents, answerSize, eventIn}
+use Rattle.rules.proofs.Check.{length-facts}
 use Rattle.route.specs.Entries.{eventLengths, eventNumber, eventTable, eventAnswer, eventsTo, eventsIn, listLengths, listNumber, listTable, listAnswers}
 use Rattle.route.proofs.Listed.{length-answer, answers-length}
-
-pub at-most : (n : ℕ) → tableLength n ≡ true → n / circuitSize ≤ mostCircuits
-unfolding tableLength
-at-most n h =
-    leb-true (n / circuitSize) mostCircuits
-    (and-right (leb 1 (n / circuitSize)) (leb (n / circuitSize) mostCircuits) (and-right (eqb (n % circuitSize) 0) (leb 1 (n / circuitSize) && leb (n / circuitSize) mostCircuits) h))
 
 module _ {A : Type 0} {b : Bool} (y z : A) where
   when : b ≡ true → {x : A} → x ≡ y → x ≡ cond b y z
@@ -41,7 +36,7 @@ module _ (t e a : List ℕ) where
     event-facts =
         let two = eqb (length e) eventSize && eqb (length a) answerSize in
         let rest = and-right (tableLength (length t)) two right in (
-          at-most (length t) (and-left (tableLength (length t)) two right),
+          length-facts (length t) (and-left (tableLength (length t)) two right) .2,
           eqb-true (length e) eventSize (and-left (eqb (length e) eventSize) (eqb (length a) answerSize) rest),
           eqb-true (length a) answerSize (and-right (eqb (length e) eventSize) (eqb (length a) answerSize) rest),
         )
@@ -75,7 +70,7 @@ module _ (t es places : List ℕ) where
         let some = leb (e / eventSize) mostEvents && eqb p (answerSize * (e / eventSize)) in
         let rest = and-right (tableLength (length t)) (eqb (e % eventSize) 0 && some) right in
         let both = and-right (eqb (e % eventSize) 0) some rest in (
-          at-most (length t) (and-left (tableLength (length t)) (eqb (e % eventSize) 0 && some) right),
+          length-facts (length t) (and-left (tableLength (length t)) (eqb (e % eventSize) 0 && some) right) .2,
           eqb-true (e % eventSize) 0 (and-left (eqb (e % eventSize) 0) some rest),
           eqb-true p (answerSize * (e / eventSize)) (and-right (leb (e / eventSize) mostEvents) (eqb p (answerSize * (e / eventSize))) both),
           leb-true (e / eventSize) mostEvents (and-left (leb (e / eventSize) mostEvents) (eqb p (answerSize * (e / eventSize))) both),

@@ -3,6 +3,7 @@ use events::ANSWER_SIZE;
 use events::EVENT_SIZE;
 use events::MOST_EVENTS;
 use rules::number;
+use rules::verdict::Verdict;
 ghost use mathlib.Core.Path.{_≡_};
 ghost use mathlib.Core.Bool.{_&&_};
 ghost use mathlib.Core.List.{flatten};
@@ -10,27 +11,27 @@ ghost use Prim.Native.Nat.{_+_, _*_, _/_, _%_, _≤_};
 ghost use lib.ListN.{length};
 ghost use lib.Dec.{eqb};
 ghost use Rattle.octets.specs.Span.{put};
-ghost use Rattle.rules.specs.Valid.{valid};
+ghost use Rattle.rules.specs.Valid as table;
 ghost use Rattle.rules.specs.Run.{after, answered, answerRecord, run, answerRecords};
 ghost use Rattle.rules.specs.Records.{circuits, mostCircuits, tableLength, eventSize, eventIn, answerSize, listLength, records};
 ghost use Rattle.route.specs.Entries.{told, eventNumber, eventTable, eventAnswer, eventsTo, listNumber, listTable, listAnswers};
 
 // Applies event k to a table, writes its answer as answer k, and tells the number of the answer and the level under which a holder that it
-// lost stood, which no answer has; `intact` says whether the table is valid. The answer names the losers, so it is made of the table as it
-// was; each step reads the circuit that it needs anew, since the compiler then keeps none in memory. What is told is one number, since the
+// lost stood, which no answer has. The verdict on the table is known. The answer names the losers, so it is made of the table as it was; each
+// step reads the circuit that it needs anew, since the compiler then keeps none in memory. What is told is one number, since the
 // compiler gives a struct back through memory, which costs a list far more.
-pub fn apply(t: &mut [u8], es: &[u8], answers: &mut [u8], k: usize, intact: bool) -> u16
+pub fn apply(t: &mut [u8], es: &[u8], answers: &mut [u8], k: usize, verdict: Verdict) -> u16
     requires { ⌜ circuits (now t) ≤ mostCircuits ⌝ }
     requires { ⌜ eventSize * k + eventSize ≤ length (now es) ⌝ }
     requires { ⌜ answerSize * k + answerSize ≤ length (now answers) ⌝ }
-    requires { ⌜ intact ≡ valid records (now t) ⌝ }
+    requires { ⌜ verdict ≡ table.verdict records (now t) ⌝ }
     ensures told { λ r. ⌜ r ≡ told (answered records (now (t .entry)) (eventIn (now (es .entry)) k)) ⌝ }
     ensures table { λ _. ⌜ now (t .exit) ≡ after records (now (t .entry)) (eventIn (now (es .entry)) k) ⌝ }
     ensures answers { λ _. ⌜ now (answers .exit)
         ≡ put (now (answers .entry)) (answerSize * k) (answerRecord records (now (t .entry)) (eventIn (now (es .entry)) k)) ⌝ }
 {
     let e = events::read(es, k);
-    let outcome = decision::outcome_of(t, e, intact);
+    let outcome = decision::outcome_of(t, e, verdict);
     let answer = answer::answered(t, e, outcome);
     effect::effect(t, e, outcome);
     events::write(answers, k, answer);
@@ -73,8 +74,8 @@ pub fn event(t: &mut [u8], e: &[u8], a: &mut [u8]) -> u8
     if !event_lengths(t.len(), e.len(), a.len()) {
         return number::WRONG_LENGTH;
     }
-    let intact = validity::valid(t);
-    number_told(apply(t, e, a, 0, intact))
+    let verdict = validity::verdict(t);
+    number_told(apply(t, e, a, 0, verdict))
 }
 
 // Tells whether the lengths of a table, its events and their answer places are right.
@@ -94,19 +95,19 @@ pub fn list_lengths(t: usize, es: usize, places: usize) -> bool
     places == ANSWER_SIZE * n
 }
 
-// Applies the first n events one after another. Whether the table is valid was asked once, before them, since no event changes that.
-fn each(t: &mut [u8], es: &[u8], places: &mut [u8], n: usize, intact: bool)
+// Applies the first n events one after another. The table was looked at once, before them, since no event changes the verdict on it.
+fn each(t: &mut [u8], es: &[u8], places: &mut [u8], n: usize, verdict: Verdict)
     requires { ⌜ circuits (now t) ≤ mostCircuits ⌝ }
     requires { ⌜ eventSize * n ≤ length (now es) ⌝ }
     requires { ⌜ answerSize * n ≤ length (now places) ⌝ }
-    requires { ⌜ intact ≡ valid records (now t) ⌝ }
+    requires { ⌜ verdict ≡ table.verdict records (now t) ⌝ }
     ensures table { λ _. ⌜ now (t .exit) ≡ run records (now (t .entry)) (eventsTo (now (es .entry)) n) ⌝ }
     ensures answers { λ _. ⌜ now (places .exit)
         ≡ put (now (places .entry)) 0 (flatten (answerRecords records (now (t .entry)) (eventsTo (now (es .entry)) n))) ⌝ }
 {
     let mut k = 0;
     while k < n {
-        apply(t, es, places, k, intact);
+        apply(t, es, places, k, verdict);
         k += 1;
     }
 }
@@ -120,7 +121,7 @@ pub fn list(t: &mut [u8], es: &[u8], places: &mut [u8]) -> u8
     if !list_lengths(t.len(), es.len(), places.len()) {
         return number::WRONG_LENGTH;
     }
-    let intact = validity::valid(t);
-    each(t, es, places, es.len() / EVENT_SIZE, intact);
+    let verdict = validity::verdict(t);
+    each(t, es, places, es.len() / EVENT_SIZE, verdict);
     number::DONE
 }

@@ -1,6 +1,6 @@
 -- A holder is lost to a set-up that is strictly higher, and both have a level of 0 to 4. In any layout.
 use Prim.Native.Nat.{ℕ, _<_}
-use mathlib.Core.Path.{_≡_, sym, ap, _∙_}
+use mathlib.Core.Path.{_≡_, refl, sym, ap, _∙_}
 use mathlib.Core.Logic.{⊎-elim}
 use mathlib.Core.Bool.{Bool, true, false, _&&_, _||_, not, true≢false}
 use mathlib.Core.List.{List}
@@ -72,4 +72,4 @@ lost-levels L s e q =
     let ev = L .event e in
     by-so (valid L s)
     (λ v. let f = valid-facts L s v in lost-taken (L .view s) (L .count s) ev (f .levels) (f .pair) (outcomeOf L s ev) (decided L s ev) q)
-    (λ v. absurd (true≢false (sym q ∙ ap (λ (o : Outcome). answerOf (L .view s) (L .count s) ev o .call .present) (not-valid-refused L s ev v))))
+    (λ v. absurd (true≢false (sym q ∙ not-valid-refused L (λ o. answerOf (L .view s) (L .count s) ev o .call .present ≡ false) s ev v (λ r. refl))))

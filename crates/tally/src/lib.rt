@@ -3,6 +3,7 @@ pub mod totals;
 
 use events::EVENT_SIZE;
 use rules::number;
+use rules::verdict::Verdict;
 use totals::FIGURES;
 ghost use mathlib.Core.Path.{_≡_};
 ghost use mathlib.Core.Bool.{_&&_};
@@ -11,7 +12,7 @@ ghost use Prim.Native.Nat.{_+_, _*_, _/_, _≤_};
 ghost use lib.ListN.{length};
 ghost use lib.Dec.{eqb};
 ghost use Rattle.octets.specs.Span.{put};
-ghost use Rattle.rules.specs.Valid.{valid};
+ghost use Rattle.rules.specs.Valid as table;
 ghost use Rattle.rules.specs.Run.{after, answered, answerRecord, run, answerRecords};
 ghost use Rattle.rules.specs.Records.{circuits, mostCircuits, mostEvents, tableLength, eventSize, eventIn, eventAt, answerSize, listLength, records};
 ghost use Rattle.route.specs.Entries.{eventsTo};
@@ -47,11 +48,11 @@ pub fn holders(t: &[u8]) -> u64
 }
 
 // Applies event k to a table, writes its answer as answer k, and counts it.
-fn step(t: &mut [u8], es: &[u8], places: &mut [u8], totals: &mut [u64], k: usize, intact: bool)
+fn step(t: &mut [u8], es: &[u8], places: &mut [u8], totals: &mut [u64], k: usize, verdict: Verdict)
     requires { ⌜ circuits (now t) ≤ mostCircuits ⌝ }
     requires { ⌜ eventSize * k + eventSize ≤ length (now es) ⌝ }
     requires { ⌜ answerSize * k + answerSize ≤ length (now places) ⌝ }
-    requires { ⌜ intact ≡ valid records (now t) ⌝ }
+    requires { ⌜ verdict ≡ table.verdict records (now t) ⌝ }
     requires { ⌜ HasRoomFor 1 (now totals) ⌝ }
     ensures table { λ _. ⌜ now (t .exit) ≡ after records (now (t .entry)) (eventIn (now (es .entry)) k) ⌝ }
     ensures answers { λ _. ⌜ now (places .exit)
@@ -60,7 +61,7 @@ fn step(t: &mut [u8], es: &[u8], places: &mut [u8], totals: &mut [u64], k: usize
         ≡ added (shares (eventAt (eventIn (now (es .entry)) k)) (answered records (now (t .entry)) (eventIn (now (es .entry)) k)))
         (now (totals .entry)) ⌝ }
 {
-    let told = route::apply(t, es, places, k, intact);
+    let told = route::apply(t, es, places, k, verdict);
     let e = events::read(es, k);
     let lost = events::is_lost(events::lost_call(events::answer_at(places, k)));
     totals::count(
@@ -73,12 +74,12 @@ fn step(t: &mut [u8], es: &[u8], places: &mut [u8], totals: &mut [u64], k: usize
     );
 }
 
-// Applies the first n events one after another, and counts each. Whether the table is valid was asked once, before them.
-fn each(t: &mut [u8], es: &[u8], places: &mut [u8], totals: &mut [u64], n: usize, intact: bool)
+// Applies the first n events one after another, and counts each. The table was looked at once, before them.
+fn each(t: &mut [u8], es: &[u8], places: &mut [u8], totals: &mut [u64], n: usize, verdict: Verdict)
     requires { ⌜ circuits (now t) ≤ mostCircuits ⌝ }
     requires { ⌜ eventSize * n ≤ length (now es) ⌝ }
     requires { ⌜ answerSize * n ≤ length (now places) ⌝ }
-    requires { ⌜ intact ≡ valid records (now t) ⌝ }
+    requires { ⌜ verdict ≡ table.verdict records (now t) ⌝ }
     requires { ⌜ HasRoomFor n (now totals) ⌝ }
     ensures table { λ _. ⌜ now (t .exit) ≡ run records (now (t .entry)) (eventsTo (now (es .entry)) n) ⌝ }
     ensures answers { λ _. ⌜ now (places .exit)
@@ -88,7 +89,7 @@ fn each(t: &mut [u8], es: &[u8], places: &mut [u8], totals: &mut [u64], n: usize
 {
     let mut k = 0;
     while k < n {
-        step(t, es, places, totals, k, intact);
+        step(t, es, places, totals, k, verdict);
         k += 1;
     }
 }
@@ -106,9 +107,9 @@ fn carry_out(t: &mut [u8], es: &[u8], places: &mut [u8], totals: &mut [u64], n: 
     ensures totals { λ _. ⌜ now (totals .exit)
         ≡ added (listAdds records (now (t .entry)) (eventsTo (now (es .entry)) n)) (now (totals .entry)) ⌝ }
 {
-    let intact = validity::valid(t);
+    let verdict = validity::verdict(t);
     let start = holders(t);
-    each(t, es, places, totals, n, intact);
+    each(t, es, places, totals, n, verdict);
     totals::add_list(totals, start, holders(t));
 }
 

@@ -1,9 +1,8 @@
 -- By what was decided.
-use Prim.Native.Nat.{ℕ}
-use mathlib.Core.Path.{sym, ap, subst, _∙_}
+use mathlib.Core.Path.{sym, ap, ap₂, subst, _∙_}
 use denote.Ref.{now}
 use native.Mathlib.Omega.{arith}
-use Rattle.rules.specs.Answer.{noDetail, noLoser, answerOf}
+use Rattle.rules.specs.Answer.{noLoser, answerOf}
 use Rattle.rules.specs.Numbers.{clockTaken}
 use Rattle.rules.specs.Records.{circuitAt, circuits}
 use Rattle.rules.specs.Ready.{Ready}
@@ -26,9 +25,9 @@ circuit-at-requires c κs =
 returns : tie.Need-returns
 unfolding answerOf
 returns c =
-    let a = c .before .before .before .before .before .before .args in
-    c .no-loser .ensures ∙ ap (λ (k : ℕ). noLoser k noDetail) (c .before .number .ensures)
-    ∙ ap (answerOf (circuitAt (now (a .t))) (circuits (now (a .t))) (a .e)) (sym (c .before .before .before .o .given .1))
+    let a = c .before .before .before .before .before .before .before .args in
+    c .no-loser .ensures ∙ ap₂ noLoser (c .before .before .number .ensures) (c .before .detail .ensures)
+    ∙ ap (answerOf (circuitAt (now (a .t))) (circuits (now (a .t))) (a .e)) (sym (c .before .before .before .before .o .given .1))
 
 returns-2 : tie.Need-returns-2
 returns-2 c =
@@ -47,6 +46,7 @@ answered-spec =
     tie.close
     (tie.spec
     (λ c. search needs)
+    (λ c κs. search needs)
     (λ c κs. search needs)
     (λ c κs. search needs)
     (λ c. search needs)

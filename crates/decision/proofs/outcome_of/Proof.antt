@@ -1,39 +1,59 @@
 -- A malformed event first, then a table that is not valid.
-use mathlib.Core.Path.{subst, sym, _∙_}
+use mathlib.Core.Path.{sym, ap, subst, _∙_}
+use native.Mathlib.Omega.{arith}
 use denote.Ref.{now}
 use borrow.Author.Tests.{not-false}
+use Rattle.octets.proofs.Tests.{ways}
+use Rattle.rules.specs.Valid.{isValid, valid}
 use Rattle.rules.specs.Run.{outcomeOf}
 use Rattle.rules.specs.Records.{records}
-use Rattle.octets.proofs.Tests.{ways}
 use Rattle.rules.specs.Ready.{Ready}
-use Rattle.decision.proofs.Named.{ready}
+use Rattle.rules.proofs.FirstFault.{fault-there}
+use Rattle.decision.proofs.Named.{by-fault, ready}
 use borrow.Author.Needs.{needs}
 use Rattle.decision.proofs.outcome_of.Statement.{statement}
 use Rattle.decision.proofs.outcome_of.Tie as tie
 
-returns : tie.Need-returns
+malformed : tie.Need-returns
 unfolding outcomeOf
-returns c =
+malformed c =
     (search ways depth 8, tt)
 
-returns-2 : tie.Need-returns-2
-unfolding outcomeOf
-returns-2 c =
-    (search ways depth 8, tt)
+-- the record of the fault has room in 16 bits
+fits : tie.Need-cast-t10
+unfolding records
+fits c =
+    let start = c .before .before .before .before .before .before in
+    let there = fault-there records (now (start .args .t)) _ _ (sym (start .pre .1) ∙ c .before .verdict .given .1) in
+    omega arith
 
-returns-3 : tie.Need-returns-3
-unfolding outcomeOf records
-returns-3 c =
-    let start = c .before .before .before .before .before in
+decided : tie.Need-returns-2
+unfolding valid
+decided c =
+    let tests = c .before .before .before in
+    let start = tests .before .before .before in
     let t = now (start .args .t) in
-    (search ways depth 8, subst (Ready t) (sym (c .decision .ensures)) (ready t (sym (start .pre) ∙ not-false _ (c .before .if2 .left)) (start .args .e) (sym (c .before .before .before .well-formed .ensures) ∙ not-false _ (c .before .before .if1 .left))))
+    let e = start .args .e in
+    let formed = sym (tests .before .well-formed .ensures) ∙ not-false _ (tests .if1 .left) in
+    let sound = sym (start .pre .1) ∙ c .before .enum-told .given .1 in
+    (c .decision .ensures ∙ sym (by-fault t e formed sound), subst (Ready t) (sym (c .decision .ensures)) (ready t (ap isValid sound) e formed))
+
+faulty : tie.Need-returns-3
+faulty c =
+    let tests = c .before .before .before in
+    let start = tests .before .before .before in
+    let formed = sym (tests .before .well-formed .ensures) ∙ not-false _ (tests .if1 .left) in
+    (sym (by-fault (now (start .args .t)) (start .args .e) formed (sym (start .pre .1) ∙ c .before .verdict .given .1)), tt)
 
 pub outcome-of-spec : {M : Type 1} → statement M
 outcome-of-spec =
     tie.close
     (tie.spec
     (λ c κs. search needs)
-    returns
-    returns-2
+    malformed
+    (λ c. search needs)
     (λ c κs. search needs)
-    returns-3)
+    (λ c. search needs)
+    fits
+    decided
+    faulty)

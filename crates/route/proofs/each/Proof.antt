@@ -7,29 +7,29 @@ use denote.Ref.{now}
 use native.Mathlib.Omega.{arith}
 use borrow.Author.Needs.{needs}
 use Rattle.octets.specs.Span.{span, put}
-use Rattle.rules.specs.Valid.{valid}
+use Rattle.rules.specs.Valid.{verdict}
 use Rattle.rules.specs.Run.{after, answerRecord}
 use Rattle.rules.specs.Records.{records, answerSize, eventIn}
 use Rattle.rules.proofs.Records.{lawful}
-use Rattle.rules.proofs.Kept.{run-valid}
+use Rattle.rules.proofs.Kept.{run-verdict}
 use Rattle.route.specs.Entries.{eventsTo}
 use Rattle.route.proofs.Listed.{ran, given, ran-more, none-answered, answers-more}
 use Rattle.route.proofs.each.Statement.{statement}
 use Rattle.route.proofs.each.Tie as tie
 
 abbrev Inv-loop : tie.InvT-loop
-Inv-loop t₀ es places₀ n intact k₀ t places k = (k ≤ n) × (t ≡ ran t₀ es k) × (places ≡ put places₀ 0 (given t₀ es k)) × (length t ≡ length t₀) × (length places ≡ length places₀)
+Inv-loop t₀ es places₀ n verdict₀ k₀ t places k = (k ≤ n) × (t ≡ ran t₀ es k) × (places ≡ put places₀ 0 (given t₀ es k)) × (length t ≡ length t₀) × (length places ≡ length places₀)
 
 abbrev μ-loop : tie.MeasureT-loop
-μ-loop t₀ es places₀ n intact k₀ t places k = n - k
+μ-loop t₀ es places₀ n verdict₀ k₀ t places k = n - k
 
 apply-requires : tie.Need-apply-requires Inv-loop μ-loop
 apply-requires c κs =
     let l = c .before .before .before .loop in
     let start = c .before .before .before .before .before .before .before in
     let a = start .args in
-    let valid-still = start .pre .1 .1 .1 ∙ sym (run-valid records lawful (eventsTo (now (a .es)) (l .k)) (now (a .t))) ∙ ap (valid records) (sym (l .inv .1)) in
-    (omega arith, (omega arith, (omega arith, valid-still)))
+    let same = start .pre .1 .1 .1 ∙ sym (run-verdict records lawful (eventsTo (now (a .es)) (l .k)) (now (a .t))) ∙ ap (verdict records) (sym (l .inv .1)) in
+    (omega arith, (omega arith, (omega arith, same)))
 
 loop-again : tie.Need-loop-again Inv-loop μ-loop
 loop-again c =

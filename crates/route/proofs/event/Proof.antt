@@ -22,7 +22,7 @@ unfolding eventLengths
 apply-requires c κs =
     let a = c .before .before .before .before .before .before .before .before .before .args in
     let f = event-facts (now (a .t)) (now (a .e)) (now (a .a)) (sym (c .before .before .before .before .before .event-lengths .ensures) ∙ not-false _ (c .before .before .before .before .if1 .left)) in
-    (f .0, (omega arith, (omega arith, c .before .before .valid .ensures)))
+    (f .0, (omega arith, (omega arith, c .before .before .verdict .ensures)))
 
 returns-2 : tie.Need-returns-2
 unfolding eventLengths

@@ -20,7 +20,7 @@ unfolding listLengths
 each-requires c κs =
     let a = c .before .before .before .before .before .before .before .before .before .args in
     let f = list-facts (now (a .t)) (now (a .es)) (now (a .places)) (sym (c .before .before .before .before .before .list-lengths .ensures) ∙ not-false _ (c .before .before .before .before .if1 .left)) in
-    (f .0, (omega arith, (omega arith, c .before .before .valid .ensures)))
+    (f .0, (omega arith, (omega arith, c .before .before .verdict .ensures)))
 
 returns-2 : tie.Need-returns-2
 unfolding listLengths

@@ -15,7 +15,7 @@ each-requires : tie.Need-each-requires
 each-requires c κs =
     let start = c .before .before .before .before .before .before .before .before .before .before .before in
     let p = start .pre in
-    (p .0, (p .1 .0, (p .1 .1 .0, (c .before .before .before .before .before .valid .ensures, room-less (p .1 .1 .1 .0) (p .1 .1 .1 .1)))))
+    (p .0, (p .1 .0, (p .1 .1 .0, (c .before .before .before .before .before .verdict .ensures, room-less (p .1 .1 .1 .0) (p .1 .1 .1 .1)))))
 
 add-list-requires : tie.Need-add-list-requires
 add-list-requires c κs =

@@ -6,11 +6,11 @@ use lib.ListN.{length}
 use denote.Ref.{now}
 use native.Mathlib.Omega.{arith}
 use Rattle.octets.specs.Span.{put}
-use Rattle.rules.specs.Valid.{valid}
+use Rattle.rules.specs.Valid.{verdict}
 use Rattle.rules.specs.Run.{after, answered, answerRecord}
 use Rattle.rules.specs.Records.{records, answerSize, eventIn, eventAt}
 use Rattle.rules.proofs.Records.{lawful}
-use Rattle.rules.proofs.Kept.{run-valid}
+use Rattle.rules.proofs.Kept.{run-verdict}
 use Rattle.route.specs.Entries.{eventsTo}
 use Rattle.route.proofs.Listed.{ran, given, ran-more, none-answered, answers-more}
 use Rattle.tally.specs.Shares.{shares}
@@ -22,20 +22,20 @@ use Rattle.tally.proofs.each.Statement.{statement}
 use Rattle.tally.proofs.each.Tie as tie
 
 abbrev Inv-loop : tie.InvT-loop
-Inv-loop t₀ es places₀ totals₀ n intact k₀ t places totals k =
+Inv-loop t₀ es places₀ totals₀ n verdict₀ k₀ t places totals k =
     (k ≤ n) × (t ≡ ran t₀ es k) × (places ≡ put places₀ 0 (given t₀ es k)) × (totals ≡ gained t₀ es totals₀ k) × (length t ≡ length t₀) × (length places ≡ length places₀) × (length totals ≡ length totals₀)
 
 abbrev μ-loop : tie.MeasureT-loop
-μ-loop t₀ es places₀ totals₀ n intact k₀ t places totals k = n - k
+μ-loop t₀ es places₀ totals₀ n verdict₀ k₀ t places totals k = n - k
 
 step-requires : tie.Need-step-requires Inv-loop μ-loop
 step-requires c κs =
     let l = c .before .before .before .before .loop in
     let start = c .before .before .before .before .before .before .before .before .before in
     let a = start .args in
-    let valid-still = start .pre .1 .1 .1 .0 ∙ sym (run-valid records lawful (eventsTo (now (a .es)) (l .k)) (now (a .t))) ∙ ap (valid records) (sym (l .inv .1)) in
+    let same = start .pre .1 .1 .1 .0 ∙ sym (run-verdict records lawful (eventsTo (now (a .es)) (l .k)) (now (a .t))) ∙ ap (verdict records) (sym (l .inv .1)) in
     let room = subst (HasRoomFor 1) (sym (l .inv .3)) (room-still (now (a .t)) (now (a .es)) (now (a .totals)) (a .n) (l .k) (omega arith) (start .pre .1 .1 .1 .1)) in
-    (omega arith, (omega arith, (omega arith, (valid-still, room))))
+    (omega arith, (omega arith, (omega arith, (same, room))))
 
 loop-again : tie.Need-loop-again Inv-loop μ-loop
 loop-again c =
