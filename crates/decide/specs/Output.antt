@@ -7,7 +7,7 @@ use lib.ListN.{length}
 use lib.Dec.{eqb}
 use Rattle.rules.specs.Run.{answerRecords}
 use Rattle.rules.specs.Numbers.{done}
-use Rattle.rules.specs.Records.{eventSize, records, checkNumber}
+use Rattle.rules.specs.Records.{eventSize, records, checked, checkNumber}
 use Rattle.route.specs.Entries.{eventsIn, listLengths, listTable, listAnswers}
 use Rattle.lines.specs.Event.{header, short, badTable}
 use Rattle.decide.specs.Listing.{listing}
@@ -21,7 +21,7 @@ leftOver n = cond (eqb n 0) [] (short n)
 -- a table that the check refuses gives the only line; else the header, a line an event and the line for the last part are written
 unfoldable pub output : List ℕ → List ℕ → List ℕ
 output t input =
-    cond (eqb (checkNumber t) done) (header ++ listing 0 (answersTo t input) ++ leftOver (length input % eventSize)) (badTable (checkNumber t))
+    cond (eqb (checkNumber t) done) (header ++ listing 0 (answersTo t input) ++ leftOver (length input % eventSize)) (badTable (checked t))
 
 -- events taken as lists one after another give the lines of all of them: those of the first list, and after them those of the rest over
 -- the table that the list left

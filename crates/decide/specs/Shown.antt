@@ -11,7 +11,7 @@ use Rattle.rules.specs.Decision.{onReservation, setUp, lookAhead, release, canc
 use Rattle.rules.specs.Answer.{answerOf}
 use Rattle.rules.specs.Valid.{levelsOk, fieldsOk, pairOk, repeated, recordVerdict, verdict, valid}
 use Rattle.rules.specs.Run.{outcomeOf, effect, after, answerRecord, answered}
-use Rattle.rules.specs.Records.{putCircuit, flagsAt, blankAt, records, checkNumber, tableLength, emptyTable}
+use Rattle.rules.specs.Records.{putCircuit, flagsAt, blankAt, records, checked, tableLength, emptyTable}
 use Rattle.rules.specs.Vectors.{event, setsUp, releases, looksAhead, ticks, immediate, priority}
 use Rattle.rules.specs.Vectors as paper
 use Rattle.fields.specs.Reference.{valuesOf}
@@ -38,5 +38,5 @@ pub shown : output (emptyTable 2) (flatten paper.listing) ≡ listed
 unfolding flatten immediate priority event setsUp releases looksAhead ticks paper.listing answerRecord answered after effect
     outcomeOf decision setUp lookAhead release cancel onReservation choice heldBy reservedBy rank worth takeable answerOf valid
     verdict recordVerdict repeated levelsOk fieldsOk pairOk decimal pointCodeOk wellFormed parameterOk records putCircuit flagsAt
-    blankAt checkNumber tableLength eventsIn answersTo output decimalIn valuesOf party line listing
+    blankAt checked tableLength eventsIn answersTo output decimalIn valuesOf party line listing
 shown = refl

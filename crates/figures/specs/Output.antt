@@ -7,7 +7,7 @@ use lib.ListN.{length, replicate}
 use lib.Dec.{eqb}
 use Rattle.rules.specs.Run.{run}
 use Rattle.rules.specs.Numbers.{done}
-use Rattle.rules.specs.Records.{circuitSize, mostCircuits, eventSize, records, checkNumber}
+use Rattle.rules.specs.Records.{circuitSize, mostCircuits, eventSize, records, checked, checkNumber}
 use Rattle.route.specs.Entries.{eventsIn}
 use Rattle.tally.specs.Places as place
 use Rattle.tally.specs.Shares.{holders, eventsAdd, listAdds}
@@ -53,7 +53,7 @@ shortsOf (p ∷ ps) = let n = length (p .input) % eventSize in cond (eqb n 0) []
 -- the first table that the check refuses gives the only line; else this text is written
 abbrev pub unlessBad : List Pair → List ℕ → List ℕ
 unlessBad [] text = text
-unlessBad (p ∷ ps) text = cond (eqb (checkNumber (p .table)) done) (unlessBad ps text) (badTable (checkNumber (p .table)))
+unlessBad (p ∷ ps) text = cond (eqb (checkNumber (p .table)) done) (unlessBad ps text) (badTable (checked (p .table)))
 
 abbrev pub noTotals : List ℕ  -- the totals before the first list
 noTotals = replicate place.figures 0

@@ -10,7 +10,7 @@ use Rattle.rules.specs.Decision.{onReservation, setUp, lookAhead, release, canc
 use Rattle.rules.specs.Answer.{answerOf}
 use Rattle.rules.specs.Valid.{levelsOk, fieldsOk, pairOk, repeated, recordVerdict, verdict, valid}
 use Rattle.rules.specs.Run.{outcomeOf, effect, after, answered}
-use Rattle.rules.specs.Records.{putCircuit, flagsAt, blankAt, records, checkNumber, tableLength, emptyTable}
+use Rattle.rules.specs.Records.{putCircuit, flagsAt, blankAt, records, checked, tableLength, emptyTable}
 use Rattle.rules.specs.Vectors.{event, setsUp, releases, looksAhead, ticks, immediate, priority}
 use Rattle.rules.specs.Vectors as paper
 use Rattle.route.specs.Entries.{eventsIn}
@@ -44,5 +44,5 @@ pub shown : output (record { table = emptyTable 2; input = flatten paper.listing
 unfolding flatten immediate priority event setsUp releases looksAhead ticks paper.listing answered after effect
     outcomeOf decision setUp lookAhead release cancel onReservation choice heldBy reservedBy rank worth takeable answerOf valid
     verdict recordVerdict repeated levelsOk fieldsOk pairOk decimal pointCodeOk wellFormed parameterOk records putCircuit flagsAt
-    blankAt checkNumber tableLength eventsIn adds holders decimalIn sums answer row rows figuresText output
+    blankAt checked tableLength eventsIn adds holders decimalIn sums answer row rows figuresText output
 shown = refl

@@ -6,11 +6,11 @@ use mathlib.Core.List.{List}
 use lib.Dec.{eqb}
 use borrow.Author.Tests.{eqb-true}
 use Rattle.octets.proofs.Tests.{by-so}
-use Rattle.rules.specs.Records.{checkNumber}
+use Rattle.rules.specs.Records.{checked, checkNumber}
+use Rattle.rules.proofs.Check.{check-most}
 use Rattle.lamps.specs.declared.Lamps.{Lamps}
 use Rattle.lamps.specs.Lamps.{lowestIn, litMap, darkMap, lampMap}
 use Rattle.lamps.specs.Claims.{LowestTaken, NoneLit}
-use Rattle.lamps.proofs.Checked.{checked-length}
 use Rattle.lamps.proofs.LowestLamp.{table-taken, table-none}
 
 -- number 0 is the check's own
@@ -18,19 +18,19 @@ accepted : (t : List ℕ) → lampMap t .number ≡ 0 → checkNumber t ≡ 0
 unfolding lampMap
 accepted t h =
     by-so (eqb (checkNumber t) 0) (eqb-true (checkNumber t) 0)
-    (λ e. sym (ap (λ (b : Bool). cond b (litMap t) (darkMap (checkNumber t)) .number) e) ∙ h)
+    (λ e. sym (ap (λ (b : Bool). cond b (litMap t) (darkMap (checked t)) .number) e) ∙ h)
 
 -- of a table that the check accepts the map shows the free circuits
 pub shown : (t : List ℕ) → checkNumber t ≡ 0 → lampMap t ≡ litMap t
 unfolding lampMap
-shown t h = ap (λ (n : ℕ). cond (eqb n 0) (litMap t) (darkMap n)) h
+shown t h = ap (λ (n : ℕ). cond (eqb n 0) (litMap t) (darkMap (checked t))) h
 
 pub lowest-taken : LowestTaken
 lowest-taken t m i h e =
     let k = accepted t h in
-    table-taken t (checked-length t k) m i (ap (λ (l : Lamps). lowestIn (l .words)) (sym (shown t k)) ∙ e)
+    table-taken t (check-most t k) m i (ap (λ (l : Lamps). lowestIn (l .words)) (sym (shown t k)) ∙ e)
 
 pub none-lit : NoneLit
 none-lit t h e =
     let k = accepted t h in
-    table-none t (checked-length t k) .0 (ap (λ (l : Lamps). lowestIn (l .words)) (sym (shown t k)) ∙ e)
+    table-none t (check-most t k) .0 (ap (λ (l : Lamps). lowestIn (l .words)) (sym (shown t k)) ∙ e)

@@ -3,6 +3,5 @@ pub mod Counts
 pub mod Lit
 pub mod Shown
 pub mod LowestLamp
-pub mod Checked
 pub mod Determined
 pub mod Claimed

@@ -1,4 +1,4 @@
--- This is 01, "Lamp map": four words of 64 lamps, lit where free, and the number lit.
+-- This is 01, "Lamp map", with the record of 02, L2: four words of 64 lamps, lit where free, and the number lit.
 use Prim.Native.Nat.{ℕ, zero, suc, _+_, _*_, _/_, _%_}
 use mathlib.Core.Bool.{Bool, cond, _&&_}
 use mathlib.Core.List.{List, [], _∷_}
@@ -7,10 +7,12 @@ use lib.Dec.{eqb, ltb}
 use Rattle.octets.specs.Bit.{bit}
 use Rattle.rules.specs.declared.circuit.Circuit.{Circuit}
 use Rattle.rules.specs.declared.search.Found.{Found}
+use Rattle.rules.specs.declared.verdict.Check.{Check}
 use Rattle.rules.specs.Search.{countTo, firstTo}
 use Rattle.rules.specs.Circuit.{free}
-use Rattle.rules.specs.Records.{circuitAt, checkNumber, circuits}
+use Rattle.rules.specs.Records.{circuitAt, checked, checkNumber, circuits}
 use Rattle.rules.specs.Numbers.{done}
+use Rattle.rules.specs.Answer.{noDetail}
 use Rattle.lamps.specs.declared.Lamps.{Lamps}
 
 -- lamp c of a route is lit where circuit c is free; lamps past the table's end are dark
@@ -42,14 +44,15 @@ lowestIn ws = firstTo (lampIn ws) 256
 
 -- the lamps of n circuits x, and how many of the circuits are free
 abbrev pub litRoute : (ℕ → Circuit) → ℕ → Lamps
-litRoute x n = record { number = done; lit = countTo (λ i. free (x i)) n; words = fourWords (lit x n) }
+litRoute x n = record { number = done; lit = countTo (λ i. free (x i)) n; detail = noDetail; words = fourWords (lit x n) }
 
 abbrev pub litMap : List ℕ → Lamps  -- the lamps of a table's circuits
 litMap t = litRoute (circuitAt t) (circuits t)
 
-abbrev pub darkMap : ℕ → Lamps  -- at 20 and 21 all words, and the number lit, are zero
-darkMap number = record { number = number; lit = 0; words = replicate 4 0 }
+-- where the check refuses the table, its number and its record are passed on, and all words, and the number lit, are zero
+abbrev pub darkMap : Check → Lamps
+darkMap refused = record { number = refused .number; lit = 0; detail = refused .detail; words = replicate 4 0 }
 
--- the words come back as values with number 0, 20 or 21
+-- the words come back as values with the number that the check gives
 unfoldable pub lampMap : List ℕ → Lamps
-lampMap t = cond (eqb (checkNumber t) done) (litMap t) (darkMap (checkNumber t))
+lampMap t = cond (eqb (checkNumber t) done) (litMap t) (darkMap (checked t))

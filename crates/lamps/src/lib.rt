@@ -1,16 +1,20 @@
 // The lamp map is four words of 64 lamps, lit where a circuit is free, and the number lit.
+use rules::answer::NO_DETAIL;
 use rules::number;
 use rules::search::Found;
+use rules::verdict::Check;
 ghost use mathlib.Core.Path.{_≡_};
 ghost use mathlib.Core.Bool.{cond};
 ghost use Prim.Native.Nat.{_-_, _≤_, _<_, min};
 ghost use Rattle.lamps.specs.Lamps.{litAt, word, numberIn, lowestIn, litMap, darkMap, lampMap};
 ghost use Rattle.rules.specs.Records.{circuits, mostCircuits};
 
+// This is what the panel gets: the check's number and detail, how many lamps are lit, and the lamps.
 #[repr(C)]
 pub struct Lamps {
     pub number: u8,
     pub lit: u16,
+    pub detail: u16,
     pub words: [u64; 4],
 }
 
@@ -83,29 +87,31 @@ fn lit_map(t: &[u8]) -> Lamps
     Lamps {
         number: number::DONE,
         lit,
+        detail: NO_DETAIL,
         words,
     }
 }
 
-// Gives the map where the check refuses the table: the number is the check's, and every lamp is dark.
-fn dark(number: u8) -> Lamps
-    ensures { λ r. ⌜ r ≡ darkMap number ⌝ }
+// Gives the map where the check refuses the table: number and detail are the check's, and every lamp is dark.
+fn dark(refused: Check) -> Lamps
+    ensures { λ r. ⌜ r ≡ darkMap refused ⌝ }
 {
     let words = [0u64; 4];
     Lamps {
-        number,
+        number: refused.number,
         lit: 0,
+        detail: refused.detail,
         words,
     }
 }
 
-// Gives the map of a valid table; at 20 and 21 every lamp is dark.
+// Gives the map of a valid table; where the check refuses it, every lamp is dark.
 pub fn map(t: &[u8]) -> Lamps
     ensures reading { λ r. ⌜ r ≡ lampMap (now (t .entry)) ⌝ }
 {
-    let number = validity::check(t);
-    if number != number::DONE {
-        return dark(number);
+    let check = validity::check(t);
+    if check.number != number::DONE {
+        return dark(check);
     }
     lit_map(t)
 }

@@ -1,8 +1,9 @@
--- This is 01, "The program and its whole output": the line of an event, and the lines that stand alone.
+-- This is 01, "The program and its whole output", and 02, L2: the line of an event, and the lines that stand alone.
 use Prim.Native.Nat.{ℕ}
 use mathlib.Core.Bool.{cond}
-use mathlib.Core.List.{List, _++_}
+use mathlib.Core.List.{List, [], _++_}
 use lib.Dec.{eqb}
+use Rattle.rules.specs.declared.verdict.Check.{Check}
 use Rattle.rules.specs.Answer.{noDetail}
 use Rattle.rules.specs.Records.{answerNumber, answerCause, answerDetail, lostCall, lostReservation, isLost, lostReference}
 use Rattle.fields.specs.declared.reference.Reference.{Reference}
@@ -39,5 +40,9 @@ short n = letters "short " ++ decimal n ++ letters "\n"
 abbrev pub noTable : List ℕ  -- the only line where there is no table file
 noTable = letters "no table\n"
 
-abbrev pub badTable : ℕ → List ℕ  -- the only line where the check refuses the table by number n
-badTable n = letters "bad table " ++ decimal n ++ letters "\n"
+abbrev pub badRecord : ℕ → List ℕ  -- the record that is bad, where there is one
+badRecord n = cond (eqb n noDetail) [] (field (decimal n))
+
+-- the only line where the check refuses the table: `bad table`, reason, record; `bad table 20` names none (02, L2)
+abbrev pub badTable : Check → List ℕ
+badTable refused = letters "bad table " ++ decimal (refused .number) ++ badRecord (refused .detail) ++ letters "\n"

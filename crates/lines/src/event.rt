@@ -4,6 +4,7 @@ use events::ANSWER_SIZE;
 use events::Lost;
 use fields::reference::Reference;
 use rules::answer::NO_DETAIL;
+use rules::verdict::Check;
 ghost use Prim.Native.Nat.{_+_, _≤_};
 ghost use Rattle.lines.specs.Text.{field, Written};
 ghost use Rattle.lines.specs.Event.{mostLetters};
@@ -92,10 +93,25 @@ pub fn no_table(out: &mut [u8]) -> usize
     text::put(out, 0, b"no table\n")
 }
 
-// Writes the only line that there is where the check refuses the table by this number.
-pub fn bad_table(out: &mut [u8], number: u8) -> usize
-    ensures text { λ r. ⌜ Written (now (out .entry)) 0 (rule.badTable number) (now (out .exit)) r ⌝ }
-    ensures end { λ r. ⌜ r ≤ 41 ⌝ }
+// Writes the record that is bad after a space, where there is one.
+fn bad_record(out: &mut [u8], at: usize, n: u16) -> usize
+    requires { ⌜ at ≤ 800 ⌝ }
+    ensures text { λ r. ⌜ Written (now (out .entry)) at (rule.badRecord n) (now (out .exit)) r ⌝ }
+    ensures end { λ r. ⌜ r ≤ at + 21 ⌝ }
 {
-    text::numbered(out, 0, b"bad table ", number as u64)
+    if n == NO_DETAIL {
+        return at;
+    }
+    text::field(out, at, n as u64)
+}
+
+// Writes the only line that there is where the check refuses the table.
+pub fn bad_table(out: &mut [u8], refused: Check) -> usize
+    ensures text { λ r. ⌜ Written (now (out .entry)) 0 (rule.badTable refused) (now (out .exit)) r ⌝ }
+    ensures end { λ r. ⌜ r ≤ 52 ⌝ }
+{
+    let words = text::put(out, 0, b"bad table ");
+    let reason = text::number(out, words, refused.number as u64);
+    let named = bad_record(out, reason, refused.detail);
+    text::put(out, named, b"\n")
 }

@@ -1,6 +1,6 @@
 // C and Rust link these entries of the product, each of which but the version only calls another. The header is include/naustvri.h.
 ghost use mathlib.Core.Path.{_≡_};
-ghost use Rattle.rules.specs.Records.{checkNumber};
+ghost use Rattle.rules.specs.Records.{checked};
 ghost use Rattle.fields.specs.Precedence as precedence;
 ghost use Rattle.fields.specs.Reference as reference;
 ghost use Rattle.lamps.specs.Lamps.{lampMap};
@@ -9,9 +9,9 @@ ghost use Rattle.tally.specs.Entry.{figuresNumber, figuresTable, figuresAnswers
 ghost use Rattle.naustvri.specs.Version.{version};
 
 // The version has these three parts, as in the header.
-const MAJOR: u32 = 1;
+const MAJOR: u32 = 2;
 
-const MINOR: u32 = 1;
+const MINOR: u32 = 0;
 
 const PATCH: u32 = 0;
 
@@ -59,8 +59,8 @@ pub extern "C" fn naustvri_write_reference(
 }
 
 #[no_mangle]
-pub extern "C" fn naustvri_check(table: &[u8]) -> u8
-    ensures number { λ r. ⌜ r ≡ checkNumber (now (table .entry)) ⌝ }
+pub extern "C" fn naustvri_check(table: &[u8]) -> rules::verdict::Check
+    ensures reading { λ r. ⌜ r ≡ checked (now (table .entry)) ⌝ }
 {
     validity::check(table)
 }

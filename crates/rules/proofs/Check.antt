@@ -38,6 +38,9 @@ check-done t = go (tableLength (length t)) (verdict records t) refl
     go true (Fault r i) e h = absurd (omega (arith, reason-high r))
     go false v e h = absurd (omega arith)
 
+pub check-most : (t : List ℕ) → checkNumber t ≡ done → circuits t ≤ mostCircuits
+check-most t h = length-facts (length t) (check-done t h .0) .2
+
 -- the record of a fault has room in 16 bits
 pub detail-fits : (t : List ℕ) → circuits t ≤ mostCircuits → checkOf (verdict records t) .detail ≤ noDetail
 unfolding records

@@ -4,6 +4,7 @@ pub mod named;
 use events::EVENT_SIZE;
 use events::MOST_EVENTS;
 use rules::number::DONE;
+use rules::verdict::Check;
 use table::CIRCUIT_SIZE;
 use table::MOST_CIRCUITS;
 ghost use mathlib.Core.Path.{_≡_};
@@ -95,9 +96,9 @@ fn no_table() {
 }
 
 // Writes the only line that there is where the check refuses the table.
-fn bad_table(number: u8) {
+fn bad_table(refused: Check) {
     let mut text = [0u8; LINE];
-    let n = lines::event::bad_table(&mut text, number);
+    let n = lines::event::bad_table(&mut text, refused);
     write(&text[..n]);
 }
 
@@ -106,9 +107,9 @@ fn checked(n: usize, buffer: &[u8]) -> usize
     requires { ⌜ n ≤ length (now buffer) ⌝ }
     ensures { λ r. ⌜ Checked (now (buffer .entry)) r ⌝ }
 {
-    let number = validity::check(&buffer[..n]);
-    if number != DONE {
-        bad_table(number);
+    let check = validity::check(&buffer[..n]);
+    if check.number != DONE {
+        bad_table(check);
         return 0;
     }
     n

@@ -3,6 +3,7 @@ use mathlib.Core.Path.{_≡_, ap, _∙_}
 use mathlib.Core.List.{[], _∷_}
 use denote.Ref.{now}
 use borrow.Author.Needs.{needs}
+use Rattle.rules.specs.Answer.{noDetail}
 use Rattle.lamps.specs.Lamps.{litAt, fourWords, numberIn, litMap}
 use Rattle.lamps.proofs.LowestLamp.{table-number}
 use Rattle.lamps.proofs.lit_map.Statement.{statement}
@@ -17,7 +18,7 @@ returns c =
     λ i. four .before .before .before .word .ensures i ∷ four .before .before .word2 .ensures i ∷ four .before .word3 .ensures i ∷ four .word4 .ensures i ∷ []
     in
     let number : c .number-in .result ≡ litMap t .lit = c .number-in .ensures ∙ ap numberIn words ∙ table-number t (start .pre) in
-    λ i. record { number = 0; lit = number i; words = words i }
+    λ i. record { number = 0; lit = number i; detail = noDetail; words = words i }
 
 pub lit-map-spec : {M : Type 1} → statement M
 lit-map-spec =

@@ -2,20 +2,21 @@
 use mathlib.Core.Path.{sym, ap, _∙_}
 use borrow.Author.Needs.{needs}
 use Rattle.octets.proofs.Tests.{if-eq, if-ne}
+use Rattle.rules.specs.declared.verdict.Check.{Check}
+use Rattle.rules.proofs.Check.{check-most}
 use Rattle.lamps.specs.Lamps.{darkMap, lampMap}
-use Rattle.lamps.proofs.Checked.{checked-length}
 use Rattle.lamps.proofs.map.Statement.{statement}
 use Rattle.lamps.proofs.map.Tie as tie
 
 refused : tie.Need-returns
 unfolding lampMap
 refused c =
-    let number = c .before .before .check .ensures in
-    if-ne _ _ _ 0 (λ e. c .before .if1 .taken (number ∙ e)) (c .dark .ensures ∙ ap darkMap number)
+    let check = c .before .before .before .check .ensures in
+    if-ne _ _ _ 0 (λ e. c .before .if1 .taken (ap (λ (k : Check). k .number) check ∙ e)) (c .dark .ensures ∙ ap darkMap check)
 
 shown : tie.Need-returns-2
 unfolding lampMap
-shown c = if-eq _ _ _ 0 (sym (c .before .before .check .ensures) ∙ c .before .if1 .left) (c .lit-map .ensures)
+shown c = if-eq _ _ _ 0 (sym (ap (λ (k : Check). k .number) (c .before .before .before .check .ensures)) ∙ c .before .if1 .left) (c .lit-map .ensures)
 
 pub map-spec : {M : Type 1} → statement M
 map-spec =
@@ -24,5 +25,5 @@ map-spec =
     (λ c κs. search needs)
     (λ c κs. search needs)
     refused
-    (λ c κs. checked-length _ (sym (c .before .check .ensures) ∙ c .if1 .left))
+    (λ c κs. check-most _ (sym (ap (λ (k : Check). k .number) (c .before .before .check .ensures)) ∙ c .if1 .left))
     shown)

@@ -1,8 +1,9 @@
 -- A table that is given back is one that the check took.
-use mathlib.Core.Path.{sym, _∙_}
+use mathlib.Core.Path.{sym, ap, _∙_}
 use mathlib.Core.Logic.{inr}
 use native.Mathlib.Omega.{arith}
 use lib.Seq.{length-take-le}
+use Rattle.rules.specs.declared.verdict.Check.{Check}
 use borrow.Author.Needs.{needs}
 use Rattle.streams.proofs.Tables.{none}
 use Rattle.streams.proofs.checked.Statement.{statement}
@@ -12,7 +13,7 @@ slice-aggregate-check : tie.Need-slice-aggregate-check
 slice-aggregate-check c = sym (length-take-le _ _ (omega arith))
 
 returns-2 : tie.Need-returns-2
-returns-2 c = record { within = omega arith; valid = inr (sym (c .before .check .ensures) ∙ c .if1 .left) }
+returns-2 c = record { within = omega arith; valid = inr (sym (ap (λ (k : Check). k .number) (c .before .before .check .ensures)) ∙ c .if1 .left) }
 
 pub checked-spec : {M : Type 1} → statement M
 checked-spec =
