@@ -27,8 +27,8 @@
 
 /* The version of this header: one number that grows, and its three parts. The major part grows where a host that ignores the change
  * would be wrong, the minor part with any other change that a host sees. */
-#define NAUSTVRI_VERSION_MAJOR 1
-#define NAUSTVRI_VERSION_MINOR 1
+#define NAUSTVRI_VERSION_MAJOR 2
+#define NAUSTVRI_VERSION_MINOR 0
 #define NAUSTVRI_VERSION_PATCH 0
 #define NAUSTVRI_VERSION (NAUSTVRI_VERSION_MAJOR * 10000u + NAUSTVRI_VERSION_MINOR * 100u + NAUSTVRI_VERSION_PATCH)
 
@@ -40,7 +40,8 @@ extern "C" {
  * the end, the functions that give a value's name and meaning. A host may go through them too, by two macros of its own: `first` takes
  * the first row and `next` every other. */
 
-/* The numbers given back, in the order in which refusals are tried. At 20 and 60 nothing is written. */
+/* The numbers given back, in the order in which refusals are tried. At 20 and 60 nothing is written. 41 to 45 say why a table is not
+ * valid, and come with the record that is bad. */
 #define NAUSTVRI_NUMBERS(first, next) \
     first(NAUSTVRI_DONE, 0, "list carried out, table valid, or field read or written") \
     next(NAUSTVRI_SEIZED, 1, "the call holds the circuit, nobody lost one") \
@@ -53,7 +54,11 @@ extern "C" {
     next(NAUSTVRI_WRONG_LENGTH, 20, "a length is wrong") \
     next(NAUSTVRI_TOO_MANY_LISTS, 60, "a list too many: the totals take no more") \
     next(NAUSTVRI_MALFORMED, 22, "the event or field is malformed") \
-    next(NAUSTVRI_TABLE_NOT_VALID, 21, "the table is not valid") \
+    next(NAUSTVRI_FLAG_OR_LEVEL, 41, "a flag is neither 0 nor 1, or the level of a present part is above 4") \
+    next(NAUSTVRI_DIGIT_OR_POINT_CODE, 42, "a digit of a present part is above 9, or a spare bit of its point code is set") \
+    next(NAUSTVRI_NOT_ZERO, 43, "an octet of an absent part, or of octets 28 to 31, is not zero") \
+    next(NAUSTVRI_NOT_ABOVE_HOLDER, 44, "the reservation is not strictly above the holder in the same domain") \
+    next(NAUSTVRI_REPEATED_REFERENCE, 45, "a reference stands in an earlier part") \
     next(NAUSTVRI_LOOK_AHEAD_NOT_ALLOWED, 23, "a look-ahead whose LFB is not \"allowed\"") \
     next(NAUSTVRI_LOOK_AHEAD_BY_ROUTINE, 24, "a look-ahead by ROUTINE") \
     next(NAUSTVRI_ALREADY_PRESENT, 25, "set-up by a call that holds a circuit; look-ahead by one that holds or has reserved one") \
@@ -141,13 +146,13 @@ enum naustvri_kind { NAUSTVRI_KINDS(NAUSTVRI_FIRST_CONSTANT, NAUSTVRI_NEXT_CONST
 /* An answer, 16 octets. */
 #define NAUSTVRI_ANSWER_NUMBER 0
 #define NAUSTVRI_ANSWER_CAUSE 1
-#define NAUSTVRI_ANSWER_PLACE 2             /* 2 octets: the circuit; of a clock event how many reservations it removed */
+#define NAUSTVRI_ANSWER_PLACE 2             /* 2 octets: the circuit; of a clock event how many reservations it removed; at 41 to 45 the bad record */
 #define NAUSTVRI_ANSWER_CALL_LOST 4         /* a holder lost its circuit: filled, as all below, at 2 and 4 alone */
 #define NAUSTVRI_ANSWER_LOST_CALL 5         /* its call reference */
 #define NAUSTVRI_ANSWER_RESERVATION_LOST 10 /* a reservation was lost */
 #define NAUSTVRI_ANSWER_LOST_RESERVATION 11 /* its call reference */
 
-/* ANSWER_PLACE where there is none. */
+/* ANSWER_PLACE where there is none, and the record where none is named. */
 #define NAUSTVRI_NO_PLACE 65535
 
 /* The day's figures, 95 totals of 64 bits. */
@@ -185,10 +190,17 @@ struct naustvri_reference_reading {
     struct naustvri_reference value;
 };
 
+/* What the check gives: 0, or why the table was refused, and the record that is bad. */
+struct naustvri_check_reading {
+    uint8_t number;
+    uint16_t record;    /* at 41 to 45 the bad record, from 0 as circuits are numbered; else NAUSTVRI_NO_PLACE */
+};
+
 /* Four words of 64 lamps: circuit 64 * j + i is bit i of words[j], lit where it is free, dark past the table's end. */
 struct naustvri_lamps_reading {
     uint8_t number;
     uint16_t lit;       /* how many are lit */
+    uint16_t record;    /* as the check gives it */
     uint64_t words[4];
 };
 
@@ -210,16 +222,21 @@ struct naustvri_reference_reading naustvri_read_reference(const uint8_t *octets,
  * 22 the buffer is as it was. */
 uint8_t naustvri_write_reference(uint8_t *buffer, size_t buffer_len, struct naustvri_reference value);
 
-/* 0 for a valid table, 20 for a length that is not 1 to 256 whole circuits, else 21. */
-uint8_t naustvri_check(const uint8_t *table, size_t table_len);
+/* Number 0 for a valid table, 20 for a length that is not 1 to 256 whole circuits; else 41 to 45 and the record that is bad. That is the
+ * lowest record that has any of 41 to 44, with the first of them that it has: 41 of either part goes before 42 of either, and so on. Where no
+ * record has any of them it is the lowest at 45: a part of it has a reference that stands in an earlier part, of a lower record or, for the
+ * reservation's part, of the same record. */
+struct naustvri_check_reading naustvri_check(const uint8_t *table, size_t table_len);
 
 /* One event of 16 octets applied to a table of 1 to 256 whole circuits, with 16 octets for the answer: the answer's number. At 20
- * (a length is wrong) no buffer is written; at any other refusal the answer is written and the table is as it was. */
+ * (a length is wrong) no buffer is written; at any other refusal the answer is written and the table is as it was. Over a table that is
+ * not valid a malformed event is answered by 22, and any other by the check's number, 41 to 45, with its record in ANSWER_PLACE. */
 uint8_t naustvri_event(uint8_t *table, size_t table_len, const uint8_t *event, size_t event_len, uint8_t *answer,
                        size_t answer_len);
 
 /* A list of 0 to 4,096 events applied in order, with as many octets for the answers as the events have: 0, or 20 where a length is
- * wrong and no buffer is written. It equals its events applied one by one; over a table that is not valid each answer is 22 or 21. */
+ * wrong and no buffer is written. It equals its events applied one by one; over a table that is not valid each answer is 22, or the check's
+ * number and record, which stay the same to the end of the list. */
 uint8_t naustvri_list(uint8_t *table, size_t table_len, const uint8_t *events, size_t events_len, uint8_t *answers,
                       size_t answers_len);
 
@@ -230,7 +247,7 @@ uint8_t naustvri_list(uint8_t *table, size_t table_len, const uint8_t *events, s
 uint8_t naustvri_figures(uint8_t *table, size_t table_len, const uint8_t *events, size_t events_len, uint8_t *answers,
                          size_t answers_len, uint64_t *figures, size_t figures_len);
 
-/* The lamp map of a valid table with number 0; else the check's number with every other member zero. */
+/* The lamp map of a valid table with number 0; else the check's number and record, with no lamp lit. */
 struct naustvri_lamps_reading naustvri_lamps(const uint8_t *table, size_t table_len);
 
 /* How the functions below are declared; a host may define it first. A C89 compiler that knows no inline function leaves them out. */
