@@ -59,7 +59,7 @@ pub struct Answer {
     pub number: u8,
     /// The cause for the asking party.
     pub cause: u8,
-    /// The circuit, or how many reservations a clock event removed; nothing at a refusal.
+    /// The circuit, or how many reservations a clock event removed; at a refusal the bad record, where one is named.
     pub place: Option<u16>,
     /// Who lost something.
     pub lost: Lost,
@@ -93,7 +93,7 @@ impl Answer {
             (RELEASED, Some(circuit)) => Ok(Done::Released { circuit }),
             (CANCELLED, Some(circuit)) => Ok(Done::Cancelled { circuit }),
             (CLOCK_TAKEN, Some(removed)) => Ok(Done::ClockTaken { removed }),
-            (number, _) => Err(Refusal::from_number(number)),
+            (number, record) => Err(Refusal::from_number(number, record.unwrap_or(NO_PLACE))),
         }
     }
 }

@@ -1,9 +1,9 @@
 // The version, sizes, limits and offsets of include/naustvri.h, by its names without their prefix. A test compares the two.
 
 /// The major part of [`VERSION`]: it grows where a host that ignores the change would be wrong.
-pub const VERSION_MAJOR: u32 = 1;
+pub const VERSION_MAJOR: u32 = 2;
 /// The minor part of [`VERSION`]: it grows with any other change that a host sees.
-pub const VERSION_MINOR: u32 = 1;
+pub const VERSION_MINOR: u32 = 0;
 /// The patch part of [`VERSION`].
 pub const VERSION_PATCH: u32 = 0;
 /// The version of this package, one number that grows; [`version()`](crate::version) is the archive's.
@@ -65,7 +65,7 @@ pub const EVENT_CLOCK: usize = 12;
 pub const ANSWER_NUMBER: usize = 0;
 /// In an answer: the cause for the asking party.
 pub const ANSWER_CAUSE: usize = 1;
-/// In an answer: two octets, the circuit; of a clock event how many reservations it removed.
+/// In an answer: two octets, the circuit; of a clock event how many reservations it removed; at 41 to 45 the bad record.
 pub const ANSWER_PLACE: usize = 2;
 /// In an answer: a holder lost its circuit. It is filled, as all below, at 2 and 4 alone.
 pub const ANSWER_CALL_LOST: usize = 4;
@@ -75,7 +75,7 @@ pub const ANSWER_LOST_CALL: usize = 5;
 pub const ANSWER_RESERVATION_LOST: usize = 10;
 /// In an answer: the call reference of that reservation.
 pub const ANSWER_LOST_RESERVATION: usize = 11;
-/// [`ANSWER_PLACE`] where there is none.
+/// [`ANSWER_PLACE`] where there is none, and the record where none is named.
 pub const NO_PLACE: u16 = 65535;
 
 /// How many totals the day's figures have, 64 bits each.

@@ -2,8 +2,8 @@
 
 use crate::{
     write_precedence, write_reference, Kind, Level, Lfb, Precedence, Reference, Refusal,
-    EVENT_CLOCK, EVENT_KIND, EVENT_PRECEDENCE, EVENT_REFERENCE, EVENT_SIZE, PRECEDENCE_SIZE,
-    REFERENCE_SIZE,
+    EVENT_CLOCK, EVENT_KIND, EVENT_PRECEDENCE, EVENT_REFERENCE, EVENT_SIZE, NO_PLACE,
+    PRECEDENCE_SIZE, REFERENCE_SIZE,
 };
 
 /// Where a precedence counts: a call takes no circuit from a call of another domain.
@@ -114,11 +114,11 @@ impl Event {
         octets[EVENT_KIND] = self.kind().number();
         if let Some(precedence) = self.precedence() {
             let at = &mut octets[EVENT_PRECEDENCE..EVENT_PRECEDENCE + PRECEDENCE_SIZE];
-            Refusal::unless_done(write_precedence(at, precedence))?;
+            Refusal::unless_done(write_precedence(at, precedence), NO_PLACE)?;
         }
         if let Some(call) = self.call() {
             let at = &mut octets[EVENT_REFERENCE..EVENT_REFERENCE + REFERENCE_SIZE];
-            Refusal::unless_done(write_reference(at, call))?;
+            Refusal::unless_done(write_reference(at, call), NO_PLACE)?;
         }
         octets[EVENT_CLOCK..].copy_from_slice(&self.clock().to_le_bytes());
         Ok(octets)

@@ -1,6 +1,6 @@
 // The functions of include/naustvri.h over slices.
 
-use crate::{raw, LampsReading, Precedence, PrecedenceReading, Reference, ReferenceReading};
+use crate::{raw, Check, LampsReading, Precedence, PrecedenceReading, Reference, ReferenceReading};
 
 /// The version of the archive, as [`VERSION`](crate::VERSION) is this package's.
 #[must_use]
@@ -35,14 +35,17 @@ pub fn write_reference(buffer: &mut [u8], value: Reference) -> u8 {
     unsafe { raw::naustvri_write_reference(buffer.as_mut_ptr(), buffer.len(), value) }
 }
 
-/// 0 for a valid table, 20 for a length that is not 1 to 256 whole circuits, else 21.
-#[must_use]
-pub fn check(table: &[u8]) -> u8 {
+/// Number 0 for a valid table, 20 for a length that is not 1 to 256 whole circuits; else 41 to 45 and the record that is bad. That is the lowest
+/// record that has any of 41 to 44, with the first of them that it has: 41 of either part goes before 42 of either, and so on. Where no record
+/// has any of them it is the lowest at 45: a part of it has a reference that stands in an earlier part, of a lower record or, for the reservation's
+/// part, of the same record.
+pub fn check(table: &[u8]) -> Check {
     unsafe { raw::naustvri_check(table.as_ptr(), table.len()) }
 }
 
 /// One event applied to a table: the answer's number. At 20 (a length is wrong) no buffer is written; at any other refusal the answer is
-/// written and the table is as it was.
+/// written and the table is as it was. Over a table that is not valid a malformed event is answered by 22, and any other by the number that
+/// [`check`] gives, 41 to 45, with its record at [`ANSWER_PLACE`](crate::ANSWER_PLACE).
 #[must_use]
 pub fn event(table: &mut [u8], event: &[u8], answer: &mut [u8]) -> u8 {
     unsafe {
@@ -58,7 +61,8 @@ pub fn event(table: &mut [u8], event: &[u8], answer: &mut [u8]) -> u8 {
 }
 
 /// A list of events applied in order, one answer for each: 0, or 20 where a length is wrong and no buffer is written. It equals its
-/// events applied one by one; over a table that is not valid each answer is 22 or 21.
+/// events applied one by one; over a table that is not valid each answer is 22, or the number and record that [`check`] gives, which stay the
+/// same to the end of the list.
 #[must_use]
 pub fn list(table: &mut [u8], events: &[u8], answers: &mut [u8]) -> u8 {
     unsafe {
@@ -93,7 +97,7 @@ pub fn figures(table: &mut [u8], events: &[u8], answers: &mut [u8], figures: &mu
     }
 }
 
-/// The lamp map of a valid table with number 0; else the check's number with every other member zero.
+/// The lamp map of a valid table with number 0; else the number and record that [`check`] gives, with no lamp lit.
 pub fn lamps(table: &[u8]) -> LampsReading {
     unsafe { raw::naustvri_lamps(table.as_ptr(), table.len()) }
 }

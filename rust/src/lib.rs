@@ -27,7 +27,8 @@
 //! - The functions of `include/naustvri.h` over slices: [`event()`], [`list`], [`check`] and so on. Records stay octets; the constants say
 //!   where their fields stand. Each takes any octets of any length, ends, and allocates nothing.
 //! - [`Route`], [`Event`], [`Answer`], [`Done`], [`Refusal`] and [`Figures`], in which a record that cannot be meant cannot be written. They
-//!   decide nothing: every octet is made and judged by those functions, and every total is theirs.
+//!   decide nothing: every octet is made and judged by those functions, and every total is theirs. Where a table is not valid,
+//!   [`Refusal::BadRecord`] says which record is bad and by which [`Reason`].
 //!
 //! What a host in C must do by itself, a borrow does here: a buffer that is written overlaps no other, and no other thread uses it meanwhile.
 //!
@@ -59,7 +60,7 @@ pub use constants::*;
 pub use event::{Domain, Event};
 pub use figures::Figures;
 pub use functions::*;
-pub use numbered::{Kind, Level, Lfb};
+pub use numbered::{Kind, Level, Lfb, Reason};
 pub use refusal::Refusal;
 pub use route::Route;
 pub use tables::*;

@@ -1,4 +1,4 @@
-// The values of a level, of the LFB indicator and of a kind, as enums.
+// The values of a level, of the LFB indicator, of a kind and of a reason, as enums.
 
 use core::fmt;
 
@@ -79,4 +79,14 @@ numbered! {
     LookAhead = LOOK_AHEAD,
     Cancel = CANCEL,
     Clock = CLOCK,
+}
+
+numbered! {
+    /// Why a record of a table is bad, in the order in which the reasons are tried.
+    Reason, number_name, number_meaning;
+    FlagOrLevel = FLAG_OR_LEVEL,
+    DigitOrPointCode = DIGIT_OR_POINT_CODE,
+    NotZero = NOT_ZERO,
+    NotAboveHolder = NOT_ABOVE_HOLDER,
+    RepeatedReference = REPEATED_REFERENCE,
 }

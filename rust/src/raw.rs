@@ -1,6 +1,6 @@
 // The functions as C has them.
 
-use crate::{LampsReading, Precedence, PrecedenceReading, Reference, ReferenceReading};
+use crate::{Check, LampsReading, Precedence, PrecedenceReading, Reference, ReferenceReading};
 
 extern "C" {
     pub fn naustvri_version() -> u32;
@@ -8,7 +8,7 @@ extern "C" {
     pub fn naustvri_write_precedence(buffer: *mut u8, buffer_len: usize, value: Precedence) -> u8;
     pub fn naustvri_read_reference(octets: *const u8, octets_len: usize) -> ReferenceReading;
     pub fn naustvri_write_reference(buffer: *mut u8, buffer_len: usize, value: Reference) -> u8;
-    pub fn naustvri_check(table: *const u8, table_len: usize) -> u8;
+    pub fn naustvri_check(table: *const u8, table_len: usize) -> Check;
     pub fn naustvri_event(
         table: *mut u8,
         table_len: usize,

@@ -3,41 +3,60 @@
 use core::fmt;
 
 use crate::tables::*;
+use crate::Reason;
 
-// An enum whose variants stand for the numbers of refusals, and one for any other number.
+// An enum whose variants stand for the numbers of refusals, with the bad record in its place among them, and one for any other number.
 macro_rules! refusals {
-    ($($variant:ident = $constant:ident,)*) => {
+    ({ $($before:ident = $of_before:ident,)* } BadRecord { $($after:ident = $of_after:ident,)* }) => {
         /// Why the library refuses, in the order in which refusals are tried. Later versions have more.
         #[derive(Clone, Copy, Debug, PartialEq, Eq, Hash)]
         #[non_exhaustive]
         pub enum Refusal {
             $(
-                #[doc = concat!("[`", stringify!($constant), "`](crate::", stringify!($constant), ")")]
-                $variant,
+                #[doc = concat!("[`", stringify!($of_before), "`](crate::", stringify!($of_before), ")")]
+                $before,
+            )*
+            /// The table is not valid: [`FLAG_OR_LEVEL`](crate::FLAG_OR_LEVEL) to [`REPEATED_REFERENCE`](crate::REPEATED_REFERENCE).
+            BadRecord {
+                /// Why the record is bad.
+                reason: Reason,
+                /// The record, from 0 as circuits are numbered.
+                record: u16,
+            },
+            $(
+                #[doc = concat!("[`", stringify!($of_after), "`](crate::", stringify!($of_after), ")")]
+                $after,
             )*
             /// A number that this package does not know: the archive is of another version.
             Unknown(u8),
         }
 
         impl Refusal {
-            /// Every refusal that has a name, in the order in which they are tried.
-            pub const ALL: &'static [Refusal] = &[$(Refusal::$variant,)*];
+            /// Every refusal that has a name and no record, in the order in which they are tried. [`Reason::ALL`] has the reasons of the others.
+            pub const ALL: &'static [Refusal] = &[$(Refusal::$before,)* $(Refusal::$after,)*];
 
             /// The number that the library gives.
             #[must_use]
             pub const fn number(self) -> u8 {
                 match self {
-                    $(Refusal::$variant => $constant,)*
+                    $(Refusal::$before => $of_before,)*
+                    Refusal::BadRecord { reason, .. } => reason.number(),
+                    $(Refusal::$after => $of_after,)*
                     Refusal::Unknown(number) => number,
                 }
             }
 
-            /// The refusal of a number.
+            /// The refusal of a number, and of the record that the library names beside it. Only [`BadRecord`](Refusal::BadRecord) keeps the
+            /// record; [`NO_PLACE`](crate::NO_PLACE) stands for none.
             #[must_use]
-            pub const fn from_number(number: u8) -> Refusal {
+            pub const fn from_number(number: u8, record: u16) -> Refusal {
                 match number {
-                    $($constant => Refusal::$variant,)*
-                    _ => Refusal::Unknown(number),
+                    $($of_before => Refusal::$before,)*
+                    $($of_after => Refusal::$after,)*
+                    _ => match Reason::from_number(number) {
+                        Some(reason) => Refusal::BadRecord { reason, record },
+                        None => Refusal::Unknown(number),
+                    },
                 }
             }
         }
@@ -45,19 +64,23 @@ macro_rules! refusals {
 }
 
 refusals! {
-    WrongLength = WRONG_LENGTH,
-    TooManyLists = TOO_MANY_LISTS,
-    Malformed = MALFORMED,
-    TableNotValid = TABLE_NOT_VALID,
-    LookAheadNotAllowed = LOOK_AHEAD_NOT_ALLOWED,
-    LookAheadByRoutine = LOOK_AHEAD_BY_ROUTINE,
-    AlreadyPresent = ALREADY_PRESENT,
-    ReservationDiffers = RESERVATION_DIFFERS,
-    HolderNotLower = HOLDER_NOT_LOWER,
-    NotPresent = NOT_PRESENT,
-    NoCircuitRoutine = NO_CIRCUIT_ROUTINE,
-    NoCircuitPrecedence = NO_CIRCUIT_PRECEDENCE,
-    NoCircuitLookAhead = NO_CIRCUIT_LOOK_AHEAD,
+    {
+        WrongLength = WRONG_LENGTH,
+        TooManyLists = TOO_MANY_LISTS,
+        Malformed = MALFORMED,
+    }
+    BadRecord
+    {
+        LookAheadNotAllowed = LOOK_AHEAD_NOT_ALLOWED,
+        LookAheadByRoutine = LOOK_AHEAD_BY_ROUTINE,
+        AlreadyPresent = ALREADY_PRESENT,
+        ReservationDiffers = RESERVATION_DIFFERS,
+        HolderNotLower = HOLDER_NOT_LOWER,
+        NotPresent = NOT_PRESENT,
+        NoCircuitRoutine = NO_CIRCUIT_ROUTINE,
+        NoCircuitPrecedence = NO_CIRCUIT_PRECEDENCE,
+        NoCircuitLookAhead = NO_CIRCUIT_LOOK_AHEAD,
+    }
 }
 
 impl Refusal {
@@ -71,16 +94,25 @@ impl Refusal {
         }
     }
 
-    /// Nothing at number 0, else the refusal.
-    pub(crate) fn unless_done(number: u8) -> Result<(), Refusal> {
+    /// The bad record, where the refusal names one.
+    #[must_use]
+    pub const fn record(self) -> Option<u16> {
+        match self {
+            Refusal::BadRecord { record, .. } => Some(record),
+            _ => None,
+        }
+    }
+
+    /// Nothing at number 0, else the refusal of the number and of the record named beside it.
+    pub(crate) fn unless_done(number: u8, record: u16) -> Result<(), Refusal> {
         match number {
             DONE => Ok(()),
-            _ => Err(Refusal::from_number(number)),
+            _ => Err(Refusal::from_number(number, record)),
         }
     }
 }
 
-/// Its number, the name of its constant, and its meaning in words.
+/// Its number, the name of its constant, its meaning in words, and the record where it names one.
 impl fmt::Display for Refusal {
     fn fmt(&self, f: &mut fmt::Formatter<'_>) -> fmt::Result {
         let number = self.number();
@@ -90,7 +122,11 @@ impl fmt::Display for Refusal {
             number,
             number_name(number),
             number_meaning(number)
-        )
+        )?;
+        match self.record() {
+            Some(record) => write!(f, ", in record {}", record),
+            None => Ok(()),
+        }
     }
 }
 

@@ -1,8 +1,8 @@
 // A route over a lent table.
 
 use crate::{
-    check, event, figures, lamps, list, Answer, Done, Event, Figures, LampsReading, Refusal,
-    ANSWER_NUMBER, ANSWER_SIZE,
+    check, event, figures, lamps, list, Answer, Check, Done, Event, Figures, LampsReading, Refusal,
+    ANSWER_NUMBER, ANSWER_SIZE, NO_PLACE,
 };
 
 /// A route over a lent table, which was valid when it was lent and stays so.
@@ -12,9 +12,11 @@ pub struct Route<'a> {
 }
 
 impl<'a> Route<'a> {
-    /// Borrows a table of 1 to 256 circuits, where [`check`] finds it valid. A table of zeros is a route with every circuit free.
+    /// Borrows a table of 1 to 256 circuits, where [`check`] finds it valid; [`Refusal::BadRecord`] where it finds a bad record. A table of zeros
+    /// is a route with every circuit free.
     pub fn new(table: &'a mut [u8]) -> Result<Route<'a>, Refusal> {
-        Refusal::unless_done(check(table))?;
+        let Check { number, record } = check(table);
+        Refusal::unless_done(number, record)?;
         Ok(Route { table })
     }
 
@@ -33,7 +35,7 @@ impl<'a> Route<'a> {
     /// Applies a list of 0 to 4,096 events in octets, with an answer for each; [`Refusal::WrongLength`] where a length is wrong. It gives
     /// what its events applied one by one give, and looks through the table once.
     pub fn list(&mut self, events: &[u8], answers: &mut [u8]) -> Result<(), Refusal> {
-        Refusal::unless_done(list(self.table, events, answers))
+        Refusal::unless_done(list(self.table, events, answers), NO_PLACE)
     }
 
     /// Applies a list as [`list`](Route::list) does, and adds it to the day's figures; [`Refusal::TooManyLists`] where they take no more, and
@@ -44,7 +46,8 @@ impl<'a> Route<'a> {
         answers: &mut [u8],
         day: &mut Figures,
     ) -> Result<(), Refusal> {
-        Refusal::unless_done(figures(self.table, events, answers, day.totals_mut()))
+        let number = figures(self.table, events, answers, day.totals_mut());
+        Refusal::unless_done(number, NO_PLACE)
     }
 
     /// The lamps of the free circuits; the number in them is 0.

@@ -28,7 +28,8 @@ macro_rules! table {
     };
 }
 
-// The numbers given back, in the order in which refusals are tried. At 20 and 60 nothing is written.
+// The numbers given back, in the order in which refusals are tried. At 20 and 60 nothing is written. 41 to 45 say why a table is not valid,
+// and come with the record that is bad.
 table! {
     "number", number_name, number_meaning;
     DONE = 0, "list carried out, table valid, or field read or written";
@@ -42,7 +43,11 @@ table! {
     WRONG_LENGTH = 20, "a length is wrong";
     TOO_MANY_LISTS = 60, "a list too many: the totals take no more";
     MALFORMED = 22, "the event or field is malformed";
-    TABLE_NOT_VALID = 21, "the table is not valid";
+    FLAG_OR_LEVEL = 41, "a flag is neither 0 nor 1, or the level of a present part is above 4";
+    DIGIT_OR_POINT_CODE = 42, "a digit of a present part is above 9, or a spare bit of its point code is set";
+    NOT_ZERO = 43, "an octet of an absent part, or of octets 28 to 31, is not zero";
+    NOT_ABOVE_HOLDER = 44, "the reservation is not strictly above the holder in the same domain";
+    REPEATED_REFERENCE = 45, "a reference stands in an earlier part";
     LOOK_AHEAD_NOT_ALLOWED = 23, "a look-ahead whose LFB is not \"allowed\"";
     LOOK_AHEAD_BY_ROUTINE = 24, "a look-ahead by ROUTINE";
     ALREADY_PRESENT = 25, "set-up by a call that holds a circuit; look-ahead by one that holds or has reserved one";

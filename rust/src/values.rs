@@ -1,5 +1,7 @@
 // The values that cross the line to the archive, laid out as C has them.
 
+use crate::{DONE, NO_PLACE};
+
 /// The values of a precedence parameter.
 #[repr(C)]
 #[derive(Clone, Copy, Debug, Default, PartialEq, Eq, Hash)]
@@ -46,16 +48,41 @@ pub struct ReferenceReading {
     pub value: Reference,
 }
 
+/// What [`check`](crate::check) gives.
+#[repr(C)]
+#[derive(Clone, Copy, Debug, PartialEq, Eq, Hash)]
+#[must_use]
+pub struct Check {
+    /// 0, or why the table was refused.
+    pub number: u8,
+    /// At 41 to 45 the bad record, from 0 as circuits are numbered; else [`NO_PLACE`].
+    pub record: u16,
+}
+
 /// What [`lamps`](crate::lamps) gives: four words of 64 lamps. Circuit 64 × j + i is bit i of `words[j]`, lit where it is free, dark past
 /// the table's end.
 #[repr(C)]
-#[derive(Clone, Copy, Debug, Default, PartialEq, Eq)]
+#[derive(Clone, Copy, Debug, PartialEq, Eq)]
 #[must_use]
 pub struct LampsReading {
     /// 0, or why the table was refused.
     pub number: u8,
     /// How many are lit; 0 where the table was refused.
     pub lit: u16,
+    /// The bad record, as [`check`](crate::check) gives it.
+    pub record: u16,
     /// The lamps; all dark where the table was refused.
     pub words: [u64; 4],
+}
+
+/// The lamps of a table with no free circuit.
+impl Default for LampsReading {
+    fn default() -> LampsReading {
+        LampsReading {
+            number: DONE,
+            lit: 0,
+            record: NO_PLACE,
+            words: [0; 4],
+        }
+    }
 }

@@ -136,7 +136,7 @@ fn as_answer(result: Result<Done, Refusal>) -> Answer {
         Ok(Done::Released { circuit }) => (5, 0, Some(circuit), nobody),
         Ok(Done::Cancelled { circuit }) => (6, 0, Some(circuit), nobody),
         Ok(Done::ClockTaken { removed }) => (7, 0, Some(removed), nobody),
-        Err(refusal) => (refusal.number(), refusal.cause(), None, nobody),
+        Err(refusal) => (refusal.number(), refusal.cause(), refusal.record(), nobody),
         other => panic!("not looked at: {:?}", other),
     };
     Answer {
@@ -240,7 +240,13 @@ fn tables_that_are_refused() {
     let refusal = |table: &mut [u8]| Route::new(table).map(|_| ()).unwrap_err();
     assert_eq!(refusal(&mut []), Refusal::WrongLength);
     assert_eq!(refusal(&mut [0; CIRCUIT_SIZE + 1]), Refusal::WrongLength);
-    assert_eq!(refusal(&mut [1; CIRCUIT_SIZE]), Refusal::TableNotValid);
+    assert_eq!(
+        refusal(&mut [1; CIRCUIT_SIZE]),
+        Refusal::BadRecord {
+            reason: Reason::NotZero,
+            record: 0
+        }
+    );
     let mut table = [0; CIRCUIT_SIZE];
     let mut route = Route::new(&mut table).unwrap();
     assert_eq!(
@@ -259,4 +265,56 @@ fn tables_that_are_refused() {
         Err(Refusal::WrongLength)
     );
     assert_eq!(full.totals(), &totals);
+}
+
+// A route with calls on it, of which octets were changed, or a part or a whole circuit copied elsewhere.
+fn damaged(random: &mut Random) -> Vec<u8> {
+    let mut table = vec![0; (1 + random.below(5) as usize) * CIRCUIT_SIZE];
+    let mut route = Route::new(&mut table).unwrap();
+    for _ in 0..20 {
+        // What the event does is of no matter here.
+        let _ = route.apply(&typed(&draw(random, 0)));
+    }
+    let mut place = |size: usize| size * random.below((table.len() / size) as u32) as usize;
+    let (octet, from, to) = (place(1), place(CIRCUIT_SIZE), place(CIRCUIT_SIZE));
+    match random.below(4) {
+        0 => table.copy_within(from..from + CIRCUIT_SIZE, to),
+        1 => table.copy_within(from..from + CIRCUIT_RESERVED, to + CIRCUIT_RESERVED),
+        _ => table[octet] = random.below(256) as u8,
+    }
+    table
+}
+
+// Over a table that is not valid both layers name the same record by the same reason, whoever is asked.
+#[test]
+fn damaged_tables() {
+    let mut random = Random(0x2545_f491_4f6c_dd1d);
+    let mut seen = [0; 256];
+    for _ in 0..4000 {
+        let mut table = damaged(&mut random);
+        let Check { number, record } = check(&table);
+        seen[usize::from(number)] += 1;
+        let shown = lamps(&table);
+        assert_eq!((shown.number, shown.record), (number, record));
+        let made = Route::new(&mut table).map(|_| ());
+        if number == DONE {
+            assert_eq!((made, record), (Ok(()), NO_PLACE));
+            continue;
+        }
+        let refusal = Refusal::from_number(number, record);
+        assert_eq!(made, Err(refusal));
+        let octets = Event::Clock { clock: 0 }.to_octets().unwrap();
+        let (mut answer, mut told) = ([0xff; ANSWER_SIZE], [0xff; ANSWER_SIZE]);
+        assert_eq!(event(&mut table, &octets, &mut answer), number);
+        assert_eq!(Answer::from_octets(&answer), as_answer(Err(refusal)));
+        assert_eq!(Answer::from_octets(&answer).result(), Err(refusal));
+        assert_eq!(list(&mut table, &octets, &mut told), DONE);
+        assert_eq!(told, answer);
+    }
+    for reason in Reason::ALL {
+        assert!(
+            seen[usize::from(reason.number())] > 0,
+            "no table was refused by {reason}"
+        );
+    }
 }

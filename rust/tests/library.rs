@@ -2,6 +2,12 @@
 
 use naustvri::*;
 
+// What the check gives for a valid table.
+const VALID: Check = Check {
+    number: DONE,
+    record: NO_PLACE,
+};
+
 const GUARD: u8 = 0x5a;
 const MARGIN: usize = 64;
 
@@ -108,7 +114,7 @@ fn listing_event_by_event() {
         let number = apply(&mut table, octets, &mut answer);
         assert_eq!(number, answer[ANSWER_NUMBER]);
         assert_eq!(line(i + 1, &answer), LISTING[i]);
-        assert_eq!(check(&table), DONE);
+        assert_eq!(check(&table), VALID);
     }
 }
 
@@ -351,11 +357,13 @@ fn lamps_and_check() {
             SEIZED
         );
     }
+    assert_eq!(check(&table), VALID);
     assert_eq!(
         lamps(&table),
         LampsReading {
             number: DONE,
             lit: 253,
+            record: NO_PLACE,
             words: [!7, !0, !0, !0]
         }
     );
@@ -364,21 +372,93 @@ fn lamps_and_check() {
         LampsReading {
             number: DONE,
             lit: 127,
+            record: NO_PLACE,
             words: [!7, !0, 3, 0]
         }
     );
+    let (number, record) = (WRONG_LENGTH, NO_PLACE);
+    assert_eq!(check(&table[1..]), Check { number, record });
+    assert_eq!(lamps(&table[1..]), dark(number, record));
+}
 
-    let refused = |number| LampsReading {
+// The lamp map of a table that is refused.
+fn dark(number: u8, record: u16) -> LampsReading {
+    LampsReading {
         number,
-        ..LampsReading::default()
+        lit: 0,
+        record,
+        words: [0; 4],
+    }
+}
+
+// The answer by a refusal that has no cause.
+fn refusing(number: u8, place: u16) -> [u8; ANSWER_SIZE] {
+    let mut answer = [0; ANSWER_SIZE];
+    answer[ANSWER_NUMBER] = number;
+    answer[ANSWER_PLACE..ANSWER_PLACE + 2].copy_from_slice(&place.to_le_bytes());
+    answer
+}
+
+// Every function that takes a table refuses this one by the number and the record.
+fn refused_everywhere(table: &[u8], number: u8, record: u16) {
+    assert_eq!(check(table), Check { number, record });
+    assert_eq!(lamps(table), dark(number, record));
+    let events = [event_of(RELEASE, 0, call(1), 0), [0; EVENT_SIZE]];
+    let wanted = [refusing(number, record), refusing(MALFORMED, NO_PLACE)];
+    for (octets, wanted) in events.iter().zip(wanted) {
+        let (mut after, mut answer) = (table.to_vec(), [0xff; ANSWER_SIZE]);
+        assert_eq!(apply(&mut after, octets, &mut answer), wanted[0]);
+        assert_eq!((&after[..], answer), (table, wanted));
+    }
+    let (events, wanted) = (events.concat(), wanted.concat());
+    let (mut after, mut answers) = (table.to_vec(), vec![0xff; wanted.len()]);
+    assert_eq!(list(&mut after, &events, &mut answers), DONE);
+    assert_eq!((&after[..], &answers), (table, &wanted));
+    answers.fill(0xff);
+    let mut totals = [0; FIGURES];
+    assert_eq!(add(&mut after, &events, &mut answers, &mut totals), DONE);
+    assert_eq!((&after[..], &answers), (table, &wanted));
+    for number in [number, MALFORMED] {
+        assert_eq!(totals[FIGURE_ANSWERED + usize::from(number)], 1);
+    }
+}
+
+#[test]
+fn bad_record_is_named() {
+    let mut sound = [0; 3 * CIRCUIT_SIZE];
+    for identity in 1..=2 {
+        let octets = event_of(SET_UP, ROUTINE, call(identity), 0);
+        assert_eq!(apply(&mut sound, &octets, &mut [0; ANSWER_SIZE]), SEIZED);
+    }
+    let changed = |record: usize, place: usize, octet: u8| {
+        let mut table = sound;
+        table[record * CIRCUIT_SIZE + place] = octet;
+        table
     };
-    assert_eq!(
-        (check(&table[1..]), lamps(&table[1..])),
-        (WRONG_LENGTH, refused(WRONG_LENGTH))
-    );
-    table[CIRCUIT_HELD] = 2;
-    assert_eq!(
-        (check(&table), lamps(&table)),
-        (TABLE_NOT_VALID, refused(TABLE_NOT_VALID))
-    );
+    let copied = |octets: usize, to: usize| {
+        let mut table = sound;
+        table.copy_within(..octets, to);
+        table
+    };
+    for (table, number, record) in [
+        (changed(1, CIRCUIT_HELD, 2), FLAG_OR_LEVEL, 1),
+        (
+            changed(1, CIRCUIT_HOLDER_DOMAIN, 0xa0),
+            DIGIT_OR_POINT_CODE,
+            1,
+        ),
+        (changed(2, CIRCUIT_ZERO, 1), NOT_ZERO, 2),
+        (
+            copied(CIRCUIT_RESERVED, CIRCUIT_RESERVED),
+            NOT_ABOVE_HOLDER,
+            0,
+        ),
+        (
+            copied(CIRCUIT_SIZE, 2 * CIRCUIT_SIZE),
+            REPEATED_REFERENCE,
+            2,
+        ),
+    ] {
+        refused_everywhere(&table, number, record);
+    }
 }

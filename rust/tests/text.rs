@@ -28,24 +28,29 @@ fn enums_there_and_back() {
             .copied()
             .find(|value| value.number() == number);
         assert_eq!(Kind::from_number(number), kind);
-        let refusal = Refusal::ALL
+        let reason = Reason::ALL
             .iter()
             .copied()
             .find(|value| value.number() == number);
-        assert_eq!(
-            Refusal::from_number(number),
-            refusal.unwrap_or(Refusal::Unknown(number))
-        );
-        assert_eq!(Refusal::from_number(number).number(), number);
+        assert_eq!(Reason::from_number(number), reason);
+        let refusal = Refusal::ALL
+            .iter()
+            .copied()
+            .find(|value| value.number() == number)
+            .or(reason.map(|reason| Refusal::BadRecord { reason, record: 7 }));
+        let made = Refusal::from_number(number, 7);
+        assert_eq!(made, refusal.unwrap_or(Refusal::Unknown(number)));
+        assert_eq!((made.number(), made.record()), (number, reason.map(|_| 7)));
     }
     assert_eq!(
         (
             Level::ALL.len(),
             Lfb::ALL.len(),
             Kind::ALL.len(),
+            Reason::ALL.len(),
             Refusal::ALL.len()
         ),
-        (5, 3, 5, 13)
+        (5, 3, 5, 5, 12)
     );
 }
 
@@ -93,15 +98,27 @@ fn texts() {
         (Level::Routine.name(), Kind::SetUp.to_string()),
         ("ROUTINE", String::from("set-up"))
     );
+    assert_eq!(Reason::NotZero.name(), "NOT_ZERO");
+    assert_eq!(
+        Reason::RepeatedReference.to_string(),
+        "a reference stands in an earlier part"
+    );
     assert_eq!(format!("[{:>9}]", Level::Flash), "[    FLASH]");
 }
 
 #[test]
 fn refusals_are_errors() {
-    let error: Box<dyn Error> = Box::new(Refusal::TableNotValid);
+    let error: Box<dyn Error> = Box::new(Refusal::BadRecord {
+        reason: Reason::NotZero,
+        record: 7,
+    });
     assert_eq!(
         error.to_string(),
-        "21 TABLE_NOT_VALID: the table is not valid"
+        "43 NOT_ZERO: an octet of an absent part, or of octets 28 to 31, is not zero, in record 7"
+    );
+    assert_eq!(
+        Refusal::WrongLength.to_string(),
+        "20 WRONG_LENGTH: a length is wrong"
     );
     assert_eq!(
         Refusal::Unknown(99).to_string(),
