@@ -16,7 +16,7 @@ static const struct side {
     uint8_t (*write_precedence)(uint8_t *, size_t, struct naustvri_precedence);
     struct naustvri_reference_reading (*read_reference)(const uint8_t *, size_t);
     uint8_t (*write_reference)(uint8_t *, size_t, struct naustvri_reference);
-    uint8_t (*check)(const uint8_t *, size_t);
+    struct naustvri_check_reading (*check)(const uint8_t *, size_t);
     uint8_t (*event)(uint8_t *, size_t, const uint8_t *, size_t, uint8_t *, size_t);
     uint8_t (*list)(uint8_t *, size_t, const uint8_t *, size_t, uint8_t *, size_t);
     struct naustvri_lamps_reading (*lamps)(const uint8_t *, size_t);
@@ -70,11 +70,13 @@ static void counted(const char *what, size_t circuits, const struct side *s, siz
 
 static void bench_check(const char *what, const uint8_t *table, size_t circuits)
 {
+    struct naustvri_check_reading checks[SIDES];
     for EACH_SIDE (s) {
-        COUNT(results[s - sides].number = s->check(table, circuits * NAUSTVRI_CIRCUIT_SIZE));
+        COUNT(checks[s - sides] = s->check(table, circuits * NAUSTVRI_CIRCUIT_SIZE));
         counted(what, circuits, s, 1);
     }
-    must_be_equal(what, &results[0].number, &results[1].number, 1);
+    must_be_equal(what, &checks[0].number, &checks[1].number, sizeof checks[0].number);
+    must_be_equal(what, &checks[0].record, &checks[1].record, sizeof checks[0].record);
 }
 
 static void bench_lamps(const char *what, const uint8_t *table, size_t circuits)
@@ -86,6 +88,7 @@ static void bench_lamps(const char *what, const uint8_t *table, size_t circuits)
     }
     must_be_equal(what, &lamps[0].number, &lamps[1].number, sizeof lamps[0].number);
     must_be_equal(what, &lamps[0].lit, &lamps[1].lit, sizeof lamps[0].lit);
+    must_be_equal(what, &lamps[0].record, &lamps[1].record, sizeof lamps[0].record);
     must_be_equal(what, lamps[0].words, lamps[1].words, sizeof lamps[0].words);
 }
 
@@ -224,7 +227,7 @@ static char *call_write_reference(void)
 
 static char *call_check(void)
 {
-    number_painted = painted->check(work.table, sizeof work.table);
+    number_painted = painted->check(work.table, sizeof work.table).number;
     return STACK_POINTER();
 }
 

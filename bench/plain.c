@@ -110,13 +110,16 @@ static bool table_length_ok(size_t n)
     return n % NAUSTVRI_CIRCUIT_SIZE == 0 && n >= NAUSTVRI_CIRCUIT_SIZE && n <= NAUSTVRI_CIRCUITS_MOST * NAUSTVRI_CIRCUIT_SIZE;
 }
 
+static bool fields_ok(const uint8_t *part) { return decimal(part + DOMAIN) && part[REFERENCE + 4] < 64; }
+
 static bool part_ok(const uint8_t *part)
 {
     if (part[FLAG] == 0)
         return all_zero(part, PART_SIZE);
-    return part[FLAG] == 1 && part[LEVEL] <= NAUSTVRI_ROUTINE && decimal(part + DOMAIN) && part[REFERENCE + 4] < 64;
+    return part[FLAG] == 1 && part[LEVEL] <= NAUSTVRI_ROUTINE && fields_ok(part);
 }
 
+/* Whether a record is as it should be by itself. */
 static bool circuit_ok(const uint8_t *circuit)
 {
     const uint8_t *holder = circuit + HOLDER, *reservation = circuit + RESERVATION;
@@ -125,6 +128,39 @@ static bool circuit_ok(const uint8_t *circuit)
     if (!reservation[FLAG])
         return all_zero(circuit + NAUSTVRI_CIRCUIT_RESERVATION_CLOCK, 4);
     return !holder[FLAG] || (reservation[LEVEL] < holder[LEVEL] && same_domain(reservation + DOMAIN, holder + DOMAIN));
+}
+
+static bool flag_or_level_wrong(const uint8_t *part) { return part[FLAG] > 1 || (part[FLAG] && part[LEVEL] > NAUSTVRI_ROUTINE); }
+
+static bool absent_not_zero(const uint8_t *part, size_t octets) { return !part[FLAG] && !all_zero(part, octets); }
+
+/* The first reason of a record that is not as it should be: this comes after circuit_ok, so that a sound record is looked at only once. */
+static uint8_t reason(const uint8_t *circuit)
+{
+    const uint8_t *holder = circuit + HOLDER, *reservation = circuit + RESERVATION, *rest = circuit + NAUSTVRI_CIRCUIT_ZERO;
+    if (flag_or_level_wrong(holder) || flag_or_level_wrong(reservation))
+        return NAUSTVRI_FLAG_OR_LEVEL;
+    if ((holder[FLAG] && !fields_ok(holder)) || (reservation[FLAG] && !fields_ok(reservation)))
+        return NAUSTVRI_DIGIT_OR_POINT_CODE;
+    if (absent_not_zero(holder, PART_SIZE) || absent_not_zero(reservation, rest - reservation) || !all_zero(rest, 4))
+        return NAUSTVRI_NOT_ZERO;
+    return NAUSTVRI_NOT_ABOVE_HOLDER;
+}
+
+static struct naustvri_check_reading reading(uint8_t number, size_t record)
+{
+    return (struct naustvri_check_reading){.number = number, .record = (uint16_t)record};
+}
+
+/* The lowest record that is bad by itself. */
+static struct naustvri_check_reading check_records(const uint8_t *table, size_t circuits)
+{
+    for (size_t record = 0; record < circuits; record++) {
+        const uint8_t *circuit = table + record * NAUSTVRI_CIRCUIT_SIZE;
+        if (!circuit_ok(circuit))
+            return reading(reason(circuit), record);
+    }
+    return reading(NAUSTVRI_DONE, NAUSTVRI_NO_PLACE);
 }
 
 /* Whether `part` has the reference of no part before it: of a circuit below `circuits`. */
@@ -140,34 +176,44 @@ static bool stands_in_none_before(const uint8_t *table, size_t circuits, const u
     return true;
 }
 
-static bool valid(const uint8_t *table, size_t circuits)
+/* Whether a part of a record has a reference that stands in an earlier part. */
+static bool repeats(const uint8_t *table, size_t record)
 {
-    for (size_t i = 0; i < circuits; i++)
-        if (!circuit_ok(table + i * NAUSTVRI_CIRCUIT_SIZE))
-            return false;
-    for (size_t i = 0; i < circuits; i++) {
-        const uint8_t *holder = table + i * NAUSTVRI_CIRCUIT_SIZE + HOLDER, *reservation = holder + RESERVATION;
-        if (holder[FLAG] && !stands_in_none_before(table, i, holder))
-            return false;
-        if (reservation[FLAG] && !stands_in_none_before(table, i, reservation))
-            return false;
-        if (holder[FLAG] && reservation[FLAG] && same_reference(holder + REFERENCE, reservation + REFERENCE))
-            return false;
-    }
-    return true;
+    const uint8_t *holder = table + record * NAUSTVRI_CIRCUIT_SIZE + HOLDER, *reservation = holder + RESERVATION;
+    if (holder[FLAG] && !stands_in_none_before(table, record, holder))
+        return true;
+    if (reservation[FLAG] && !stands_in_none_before(table, record, reservation))
+        return true;
+    return holder[FLAG] && reservation[FLAG] && same_reference(holder + REFERENCE, reservation + REFERENCE);
 }
 
-uint8_t plain_check(const uint8_t *table, size_t table_len)
+/* The lowest record that repeats a reference. */
+static struct naustvri_check_reading check_references(const uint8_t *table, size_t circuits)
+{
+    for (size_t record = 0; record < circuits; record++)
+        if (repeats(table, record))
+            return reading(NAUSTVRI_REPEATED_REFERENCE, record);
+    return reading(NAUSTVRI_DONE, NAUSTVRI_NO_PLACE);
+}
+
+/* The check of a table whose length is right. */
+static struct naustvri_check_reading verdict(const uint8_t *table, size_t circuits)
+{
+    struct naustvri_check_reading records = check_records(table, circuits);
+    return records.number != NAUSTVRI_DONE ? records : check_references(table, circuits);
+}
+
+struct naustvri_check_reading plain_check(const uint8_t *table, size_t table_len)
 {
     if (!table_length_ok(table_len))
-        return NAUSTVRI_WRONG_LENGTH;
-    return valid(table, table_len / NAUSTVRI_CIRCUIT_SIZE) ? NAUSTVRI_DONE : NAUSTVRI_TABLE_NOT_VALID;
+        return reading(NAUSTVRI_WRONG_LENGTH, NAUSTVRI_NO_PLACE);
+    return verdict(table, table_len / NAUSTVRI_CIRCUIT_SIZE);
 }
 
 struct naustvri_lamps_reading plain_lamps(const uint8_t *table, size_t table_len)
 {
-    struct naustvri_lamps_reading lamps = {0};
-    lamps.number = plain_check(table, table_len);
+    struct naustvri_check_reading check = plain_check(table, table_len);
+    struct naustvri_lamps_reading lamps = {.number = check.number, .record = check.record};
     if (lamps.number != NAUSTVRI_DONE)
         return lamps;
     for (size_t i = 0; i < table_len / NAUSTVRI_CIRCUIT_SIZE; i++) {
@@ -356,12 +402,12 @@ static uint8_t take_clock(uint8_t *table, size_t circuits, const struct call *ca
 }
 
 /* One event over a table whose check is known. */
-static uint8_t apply(uint8_t *table, size_t circuits, bool table_valid, const uint8_t *event, uint8_t *answer)
+static uint8_t apply(uint8_t *table, size_t circuits, const struct naustvri_check_reading *check, const uint8_t *event, uint8_t *answer)
 {
     if (!event_ok(event))
         return refuse(answer, NAUSTVRI_MALFORMED);
-    if (!table_valid)
-        return refuse(answer, NAUSTVRI_TABLE_NOT_VALID);
+    if (check->number != NAUSTVRI_DONE)
+        return write_answer(answer, check->number, NAUSTVRI_CAUSE_NONE, check->record);
     struct call call = {.parameter = event + NAUSTVRI_EVENT_PRECEDENCE, .clock = read_clock(event + NAUSTVRI_EVENT_CLOCK)};
     memcpy(call.reference, event + NAUSTVRI_EVENT_REFERENCE, NAUSTVRI_REFERENCE_SIZE);
     call.reference[4] &= 63;
@@ -384,7 +430,8 @@ uint8_t plain_event(uint8_t *table, size_t table_len, const uint8_t *event, size
     if (!table_length_ok(table_len) || event_len != NAUSTVRI_EVENT_SIZE || answer_len != NAUSTVRI_ANSWER_SIZE)
         return NAUSTVRI_WRONG_LENGTH;
     size_t circuits = table_len / NAUSTVRI_CIRCUIT_SIZE;
-    return apply(table, circuits, valid(table, circuits), event, answer);
+    struct naustvri_check_reading check = verdict(table, circuits);
+    return apply(table, circuits, &check, event, answer);
 }
 
 static bool list_lengths_ok(size_t table_len, size_t events_len, size_t answers_len)
@@ -398,9 +445,9 @@ uint8_t plain_list(uint8_t *table, size_t table_len, const uint8_t *events, size
     if (!list_lengths_ok(table_len, events_len, answers_len))
         return NAUSTVRI_WRONG_LENGTH;
     size_t circuits = table_len / NAUSTVRI_CIRCUIT_SIZE;
-    bool table_valid = valid(table, circuits);
+    struct naustvri_check_reading check = verdict(table, circuits);
     for (size_t i = 0; i < events_len; i += NAUSTVRI_EVENT_SIZE)
-        apply(table, circuits, table_valid, events + i, answers + i);
+        apply(table, circuits, &check, events + i, answers + i);
     return NAUSTVRI_DONE;
 }
 
@@ -447,14 +494,14 @@ uint8_t plain_figures(uint8_t *table, size_t table_len, const uint8_t *events, s
     if (!has_room(figures))
         return NAUSTVRI_TOO_MANY_LISTS;
     size_t circuits = table_len / NAUSTVRI_CIRCUIT_SIZE;
-    bool table_valid = valid(table, circuits);
+    struct naustvri_check_reading check = verdict(table, circuits);
     uint8_t levels[NAUSTVRI_CIRCUITS_MOST];
     for (size_t i = 0; i < circuits; i++)
         levels[i] = table[i * NAUSTVRI_CIRCUIT_SIZE + HOLDER + LEVEL];
     figures[NAUSTVRI_FIGURE_LISTS]++;
     figures[NAUSTVRI_FIGURE_START] += holders(table, circuits);
     for (size_t i = 0; i < events_len; i += NAUSTVRI_EVENT_SIZE) {
-        apply(table, circuits, table_valid, events + i, answers + i);
+        apply(table, circuits, &check, events + i, answers + i);
         count(figures, levels, events + i, answers + i);
     }
     figures[NAUSTVRI_FIGURE_END] += holders(table, circuits);

@@ -8,7 +8,7 @@ struct naustvri_precedence_reading plain_read_precedence(const uint8_t *octets, 
 uint8_t plain_write_precedence(uint8_t *buffer, size_t buffer_len, struct naustvri_precedence value);
 struct naustvri_reference_reading plain_read_reference(const uint8_t *octets, size_t octets_len);
 uint8_t plain_write_reference(uint8_t *buffer, size_t buffer_len, struct naustvri_reference value);
-uint8_t plain_check(const uint8_t *table, size_t table_len);
+struct naustvri_check_reading plain_check(const uint8_t *table, size_t table_len);
 uint8_t plain_event(uint8_t *table, size_t table_len, const uint8_t *event, size_t event_len, uint8_t *answer, size_t answer_len);
 uint8_t plain_list(uint8_t *table, size_t table_len, const uint8_t *events, size_t events_len, uint8_t *answers, size_t answers_len);
 uint8_t plain_figures(uint8_t *table, size_t table_len, const uint8_t *events, size_t events_len, uint8_t *answers, size_t answers_len,
