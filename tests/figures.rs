@@ -1,4 +1,4 @@
-// What the program figures should write, by document 02's L1 and the independent implementation.
+// What the program figures should write, by document 02's L1 and L2 and the independent implementation.
 //
 //   figures                    the whole output, by the file circuits.bin and standard input
 //   figures TABLE EVENTS ..    the whole output, by these files
@@ -9,6 +9,8 @@
 mod figures;
 #[path = "outside/independent.rs"]
 mod independent;
+#[path = "outside/table_file.rs"]
+mod table_file;
 
 use std::io::{self, Read};
 use std::{env, fs};
@@ -29,15 +31,6 @@ struct Day {
 
 fn holders(table: &[u8]) -> u64 {
     table.chunks(CIRCUIT).filter(|circuit| circuit[0] == 1).count() as u64
-}
-
-// The table, or the only line.
-fn table(name: &str) -> Result<Vec<u8>, String> {
-    let table = fs::read(name).map_err(|_| "no table\n".to_string())?;
-    match independent::check(&table) {
-        0 => Ok(table),
-        number => Err(format!("bad table {}\n", number)),
-    }
 }
 
 impl Day {
@@ -91,10 +84,10 @@ fn input() -> Vec<u8> {
 fn output(names: &[String]) -> Result<String, String> {
     let mut day = Day::new();
     if names.is_empty() {
-        day.add(table("circuits.bin")?, &input());
+        day.add(table_file::read("circuits.bin")?, &input());
     }
     for pair in names.chunks(2) {
-        let table = table(&pair[0])?;
+        let table = table_file::read(&pair[0])?;
         let events = fs::read(&pair[1]).map_err(|_| String::new())?;
         day.add(table, &events);
         if day.full {

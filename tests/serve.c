@@ -30,6 +30,8 @@ struct response {
     uint16_t lit;
     struct naustvri_precedence precedence; /* as read */
     struct naustvri_reference reference;
+    uint16_t record; /* by the check or the lamp map */
+    uint8_t unused[6];
     uint64_t words[4];
 };
 
@@ -74,35 +76,58 @@ static int guards_stand(const struct arena *a)
     return all_guard(a->buffer - GUARD, a->buffer) && all_guard(after, last);
 }
 
-/* Members are copied one by one, so that no padding of the library's goes into a response. */
+/* Readings: members are copied one by one, so that no padding of the library's goes into a response. */
+static void read_precedence(const struct arena *octets, struct response *r)
+{
+    struct naustvri_precedence_reading precedence = naustvri_read_precedence(octets->buffer, octets->length);
+    r->number = precedence.number;
+    r->precedence.level = precedence.value.level;
+    r->precedence.lfb = precedence.value.lfb;
+    memcpy(r->precedence.digits, precedence.value.digits, sizeof r->precedence.digits);
+    r->precedence.service = precedence.value.service;
+}
+
+static void read_reference(const struct arena *octets, struct response *r)
+{
+    struct naustvri_reference_reading reference = naustvri_read_reference(octets->buffer, octets->length);
+    r->number = reference.number;
+    r->reference.identity = reference.value.identity;
+    r->reference.point = reference.value.point;
+}
+
+static void check(const struct arena *table, struct response *r)
+{
+    struct naustvri_check_reading check = naustvri_check(table->buffer, table->length);
+    r->number = check.number;
+    r->record = check.record;
+}
+
+static void show_lamps(const struct arena *table, struct response *r)
+{
+    struct naustvri_lamps_reading lamps = naustvri_lamps(table->buffer, table->length);
+    r->number = lamps.number;
+    r->lit = lamps.lit;
+    r->record = lamps.record;
+    memcpy(r->words, lamps.words, sizeof r->words);
+}
+
 static void call(const struct request *q, const struct arena *a, struct response *r)
 {
-    struct naustvri_precedence_reading precedence;
-    struct naustvri_reference_reading reference;
-    struct naustvri_lamps_reading lamps;
     switch (q->entry) {
     case READ_PRECEDENCE:
-        precedence = naustvri_read_precedence(a[0].buffer, a[0].length);
-        r->number = precedence.number;
-        r->precedence.level = precedence.value.level;
-        r->precedence.lfb = precedence.value.lfb;
-        memcpy(r->precedence.digits, precedence.value.digits, sizeof r->precedence.digits);
-        r->precedence.service = precedence.value.service;
+        read_precedence(a, r);
         break;
     case WRITE_PRECEDENCE:
         r->number = naustvri_write_precedence(a[0].buffer, a[0].length, q->precedence);
         break;
     case READ_REFERENCE:
-        reference = naustvri_read_reference(a[0].buffer, a[0].length);
-        r->number = reference.number;
-        r->reference.identity = reference.value.identity;
-        r->reference.point = reference.value.point;
+        read_reference(a, r);
         break;
     case WRITE_REFERENCE:
         r->number = naustvri_write_reference(a[0].buffer, a[0].length, q->reference);
         break;
     case CHECK:
-        r->number = naustvri_check(a[0].buffer, a[0].length);
+        check(a, r);
         break;
     case EVENT:
         r->number = naustvri_event(a[0].buffer, a[0].length, a[1].buffer, a[1].length, a[2].buffer, a[2].length);
@@ -111,10 +136,7 @@ static void call(const struct request *q, const struct arena *a, struct response
         r->number = naustvri_list(a[0].buffer, a[0].length, a[1].buffer, a[1].length, a[2].buffer, a[2].length);
         break;
     case LAMPS:
-        lamps = naustvri_lamps(a[0].buffer, a[0].length);
-        r->number = lamps.number;
-        r->lit = lamps.lit;
-        memcpy(r->words, lamps.words, sizeof r->words);
+        show_lamps(a, r);
         break;
     case FIGURES:
         r->number = naustvri_figures(a[0].buffer, a[0].length, a[1].buffer, a[1].length, a[2].buffer, a[2].length,

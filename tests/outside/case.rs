@@ -1,7 +1,9 @@
 // One call of the library: the request as the serving program takes it, and the response that the independent implementation expects.
 
+use std::ops::Range;
+
 use crate::figures;
-use crate::independent::{self, CallReference, Precedence};
+use crate::independent::{self, CallReference, Check, Precedence};
 use crate::random::Random;
 
 const AT_END: u8 = 255;
@@ -10,8 +12,11 @@ const FLUSH: u8 = 9;
 // How many buffers a request may have.
 const BUFFERS: usize = 4;
 
-// The octets of the response before the buffers: number, guards, lamps lit, precedence, reference, words.
-pub const RESPONSE: usize = 56;
+// The octets of the response before the buffers: number, guards, lamps lit, precedence, reference, record, words.
+pub const RESPONSE: usize = 64;
+
+// Where the record stands among them.
+pub const RECORD: Range<usize> = 24..26;
 
 pub struct Case {
     pub what: &'static str,
@@ -24,6 +29,7 @@ pub struct Case {
 struct Values {
     precedence: Precedence,
     reference: CallReference,
+    record: u16,
     lit: u16,
     words: [u64; 4],
 }
@@ -63,6 +69,8 @@ fn response(number: u8, values: &Values, buffers: &[&[u8]]) -> Vec<u8> {
     octets.extend(values.lit.to_le_bytes());
     write_precedence(&mut octets, &values.precedence);
     write_reference(&mut octets, &values.reference);
+    octets.extend(values.record.to_le_bytes());
+    octets.extend([0; 6]);
     values.words.iter().for_each(|w| octets.extend(w.to_le_bytes()));
     buffers.iter().for_each(|b| octets.extend(*b));
     octets
@@ -113,12 +121,13 @@ pub fn write_reference_in(random: &mut Random, buffer: &[u8], value: &CallRefere
 }
 
 pub fn check(random: &mut Random, table: &[u8]) -> Case {
-    reading(random, "check", 4, table, independent::check(table), Values::default())
+    let Check { number, record } = independent::check(table);
+    reading(random, "check", 4, table, number, Values { record, ..Values::default() })
 }
 
 pub fn lamps(random: &mut Random, table: &[u8]) -> Case {
-    let (number, lit, words) = independent::lamps(table);
-    reading(random, "lamps", 7, table, number, Values { lit, words, ..Values::default() })
+    let (Check { number, record }, lit, words) = independent::lamps(table);
+    reading(random, "lamps", 7, table, number, Values { record, lit, words, ..Values::default() })
 }
 
 // A call that takes a table, one or more events and room for the answers, with what it is expected to leave.

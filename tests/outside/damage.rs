@@ -1,29 +1,97 @@
-// Tables with one thing wrong, or that seems so, at every entry that takes a table.
+// Tables with something wrong, or that seems so, at every entry that takes a table.
 
 use crate::case::{self, Application, Case};
 use crate::independent::{ANSWER, CIRCUIT};
 use crate::random::Random;
 use crate::traffic::{some_size, Route};
 
+// Where the holder's part and the reservation's begin in a record.
+const PARTS: [usize; 2] = [0, 12];
+
+fn wrong_flag_or_level(random: &mut Random, record: &mut [u8]) {
+    let part = random.pick(&PARTS);
+    if random.once_in(2) {
+        record[part] = random.pick(&[2, 3, 16, 128, 254, 255]);
+    } else {
+        record[part] = 1;
+        record[part + 1] = random.pick(&[5, 6, 15, 16, 128, 255]);
+    }
+}
+
+fn wrong_digit_or_point_code(random: &mut Random, record: &mut [u8]) {
+    let part = random.pick(&PARTS);
+    let digit = 10 + random.below(6) as u8;
+    let octet = part + 2 + random.below(2);
+    record[part] = 1;
+    match random.below(3) {
+        0 => record[octet] = record[octet] & 0x0f | digit << 4,
+        1 => record[octet] = record[octet] & 0xf0 | digit,
+        _ => record[part + 11] |= random.pick(&[0x40, 0x80, 0xc0]),
+    }
+}
+
+// A flag that is taken away from its part, an octet that is left in an absent part, or one of the last four.
+fn not_zero(random: &mut Random, record: &mut [u8]) {
+    let part = random.pick(&PARTS);
+    let end = if part == 0 { 12 } else { 28 };
+    match random.below(3) {
+        0 => record[part] = 0,
+        1 => {
+            record[part..end].fill(0);
+            record[part + 1 + random.below(end - part - 1)] = 1 << random.below(8);
+        }
+        _ => record[28 + random.below(4)] = 1 << random.below(8),
+    }
+}
+
+// Both parts are present, and the reservation's level is not higher, or its domain is another by one bit that leaves its digits decimal.
+fn not_above_holder(random: &mut Random, record: &mut [u8]) {
+    match (record[0], record[12]) {
+        (1, 1) => {}
+        (1, _) => record.copy_within(0..12, 12),
+        (_, 1) => record.copy_within(12..24, 0),
+        _ => PARTS.iter().for_each(|&part| record[part] = 1),
+    }
+    if random.once_in(2) {
+        record[13] = random.pick(&[record[1], record[1], 4]);
+    } else {
+        record[random.pick(&PARTS) + 2 + random.below(5)] ^= random.pick(&[0x01, 0x10]);
+    }
+}
+
+fn spoil(random: &mut Random, record: &mut [u8]) {
+    match random.below(5) {
+        0 => wrong_flag_or_level(random, record),
+        1 => wrong_digit_or_point_code(random, record),
+        2 => not_zero(random, record),
+        3 => not_above_holder(random, record),
+        _ => record[random.below(CIRCUIT)] ^= 1 << random.below(8),
+    }
+}
+
+// A part that is present gets the reference of another, before it or after it, or of itself.
+fn repeat_a_reference(random: &mut Random, table: &mut [u8]) {
+    let places = (0..table.len()).filter(|place| PARTS.contains(&(place % CIRCUIT)));
+    let present: Vec<usize> = places.filter(|&place| table[place] == 1).collect();
+    if !present.is_empty() {
+        let (from, to) = (random.pick(&present), random.pick(&present));
+        table.copy_within(from + 7..from + 12, to + 7);
+    }
+}
+
+// Up to three faults in one record or in several, and up to two repeated references beside them or alone.
 pub fn damage(random: &mut Random, table: &mut [u8]) {
     let circuits = table.len() / CIRCUIT;
-    let here = random.below(circuits) * CIRCUIT;
-    let part = here + random.pick(&[0, 12]);
-    let other = random.below(circuits) * CIRCUIT + random.pick(&[0, 12]);
-    match random.below(12) {
-        0 => table[here + random.below(CIRCUIT)] ^= 1 << random.below(8),
-        1 => table[part] = random.pick(&[0, 1, 2, 255]),
-        2 => table[part + 1] = random.below(7) as u8,
-        3 => table[part + 2 + random.below(2)] = random.octet(),
-        4 => table[part + 2 + random.below(5)] ^= 1,
-        5 => table[part + 11] |= random.pick(&[0x40, 0x80]),
-        6 | 7 | 8 => {
-            let reference = table[other + 7..other + 12].to_vec();
-            table[part + 7..part + 12].copy_from_slice(&reference);
+    let (faults, repeated) = random.pick(&[(1, 0), (1, 0), (2, 0), (2, 0), (3, 0), (0, 1), (0, 2), (1, 1), (1, 2), (2, 1)]);
+    for _ in 0..repeated {
+        repeat_a_reference(random, table);
+    }
+    let mut here = random.below(circuits);
+    for _ in 0..faults {
+        spoil(random, &mut table[here * CIRCUIT..(here + 1) * CIRCUIT]);
+        if random.once_in(2) {
+            here = random.below(circuits);
         }
-        9 => table[here + 28 + random.below(4)] = 1 << random.below(8),
-        10 => table[here + 24 + random.below(4)] ^= 1 << random.below(8),
-        _ => table[part + 1] = table[(here + 13).min(part + 13)],
     }
 }
 
@@ -51,5 +119,18 @@ pub fn cases(random: &mut Random, give: &mut dyn FnMut(Case)) {
             give(Application { table: &table, events: &events, answers: &answers }.list(random));
         }
         _ => {}
+    }
+}
+
+// Every octet of a record in turn, with a value at which some rule ends, or any other.
+pub fn every_octet(random: &mut Random, give: &mut dyn FnMut(Case)) {
+    let circuits = 1 + random.below(3);
+    let table = Route::new(random).table(random, circuits, 4, 4);
+    let record = random.below(circuits) * CIRCUIT;
+    for place in record..record + CIRCUIT {
+        let mut damaged = table.clone();
+        let any = random.octet();
+        damaged[place] = random.pick(&[0, 1, 2, 4, 5, 0x09, 0x0a, 0x3f, 0x40, 0x80, 0x90, 0xa0, 0xff, any]);
+        give(case::check(random, &damaged));
     }
 }

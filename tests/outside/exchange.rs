@@ -5,7 +5,7 @@ use std::process::{Child, ChildStdin, ChildStdout, Command, Stdio};
 use std::sync::mpsc::{sync_channel, Receiver, SyncSender};
 use std::thread::{spawn, JoinHandle};
 
-use crate::case::{flush, Case, RESPONSE};
+use crate::case::{flush, Case, RECORD, RESPONSE};
 
 // How many cases go out before the serving program is told to write out its responses.
 const AT_ONCE: usize = 256;
@@ -94,6 +94,7 @@ fn difference(seed: u64, case: &Case, given: &[u8]) -> String {
     let whereabouts = match place {
         0 => "the number".to_string(),
         1 => "the guard octets".to_string(),
+        p if RECORD.contains(&p) => "the record".to_string(),
         p if p < RESPONSE => "the values".to_string(),
         p => format!("octet {} of the buffers", p - RESPONSE),
     };

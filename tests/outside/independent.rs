@@ -1,5 +1,5 @@
-// Document 01 read a second time: an implementation that shares nothing with the library, in the words of the document and with no
-// eye on cost. Tables and events become plain values, the rules work on these, and the result becomes octets again.
+// Document 01 and document 02's L2 read a second time: an implementation that shares nothing with the library, in the words of the
+// documents and with no eye on cost. Tables and events become plain values, the rules work on these, and the result becomes octets again.
 
 use std::cmp::Reverse;
 use std::collections::BTreeSet;
@@ -9,6 +9,9 @@ pub const RESERVATION_LIMIT: u32 = 3000;
 pub const CIRCUIT: usize = 32;
 pub const EVENT: usize = 16;
 pub const ANSWER: usize = 16;
+
+// The place in an answer, and the record of a check, where there is none.
+pub const NOWHERE: u16 = 65535;
 
 pub type Domain = [u8; 5];
 pub type Reference = [u8; 5];
@@ -155,45 +158,98 @@ fn table_length_is_right(octets: usize) -> bool {
     octets % CIRCUIT == 0 && (1..=256).contains(&(octets / CIRCUIT))
 }
 
-// The first 12 octets of a part: None where they break a rule, Some(None) where the part is absent.
-fn read_part(octets: &[u8]) -> Option<Option<Call>> {
-    match octets[0] {
-        0 if zero(octets) => Some(None),
-        1 if octets[1] <= 4 && decimal(&octets[2..4]) && octets[11] & 0xc0 == 0 => Some(Some(Call {
-            mark: Mark { level: octets[1], domain: five(&octets[2..7]) },
-            reference: five(&octets[7..12]),
-        })),
-        _ => None,
+// A table that is not valid: by 02's L2 the reason, 41 to 45, and the record that is bad.
+#[derive(Clone, Copy, PartialEq, Eq, Debug)]
+pub struct Bad {
+    pub reason: u8,
+    pub record: usize,
+}
+
+// The holder's part and the reservation's, with the clock.
+fn parts(record: &[u8]) -> [&[u8]; 2] {
+    [&record[..12], &record[12..28]]
+}
+
+fn is_present(part: &[u8]) -> bool {
+    part[0] == 1
+}
+
+fn read_call(part: &[u8]) -> Call {
+    Call { mark: Mark { level: part[1], domain: five(&part[2..7]) }, reference: five(&part[7..12]) }
+}
+
+// "a flag wrong, or the level of a present part"
+fn flag_or_level_wrong(part: &[u8]) -> bool {
+    ![0, 1].contains(&part[0]) || is_present(part) && ![0, 1, 2, 3, 4].contains(&part[1])
+}
+
+// "a digit or point code of a present part wrong"
+fn digit_or_point_code_wrong(part: &[u8]) -> bool {
+    is_present(part) && (!decimal(&part[2..4]) || part[11] & 0xc0 != 0)
+}
+
+// "an absent part or spare octet not zero"
+fn not_zero(record: &[u8]) -> bool {
+    parts(record).iter().any(|part| part[0] == 0 && !zero(part)) || !zero(&record[28..])
+}
+
+// "a reservation not strictly above its holder in the same domain"
+fn not_above_holder(record: &[u8]) -> bool {
+    let [holder, reservation] = parts(record);
+    is_present(holder) && is_present(reservation) && !read_call(reservation).mark.above(&read_call(holder).mark)
+}
+
+// Every reason that a record has by itself.
+fn reasons(record: &[u8]) -> impl Iterator<Item = u8> {
+    let has = [
+        (41, parts(record).into_iter().any(flag_or_level_wrong)),
+        (42, parts(record).into_iter().any(digit_or_point_code_wrong)),
+        (43, not_zero(record)),
+        (44, not_above_holder(record)),
+    ];
+    has.into_iter().filter(|(_, has)| *has).map(|(reason, _)| reason)
+}
+
+// "Reasons within records come first, lowest record first, in that order": the least by record, then by reason.
+fn bad_by_itself(table: &[u8]) -> Option<Bad> {
+    let faults = table.chunks(CIRCUIT).enumerate().flat_map(|(place, record)| reasons(record).map(move |reason| (place, reason)));
+    faults.min().map(|(record, reason)| Bad { reason, record })
+}
+
+// A record that is not bad by itself.
+fn read_circuit(record: &[u8]) -> Circuit {
+    let [holder, reservation] = parts(record);
+    let clock = four_octet_number(&reservation[12..]);
+    Circuit {
+        holder: is_present(holder).then(|| read_call(holder)),
+        reservation: is_present(reservation).then(|| (read_call(reservation), clock)),
     }
 }
 
-fn read_circuit(octets: &[u8]) -> Option<Circuit> {
-    let holder = read_part(&octets[..12])?;
-    let reserver = read_part(&octets[12..24])?;
-    let clock = four_octet_number(&octets[24..28]);
-    if !zero(&octets[28..]) || (reserver.is_none() && clock != 0) {
-        return None;
-    }
-    if let (Some(holder), Some(reserver)) = (holder, reserver) {
-        if !reserver.mark.above(&holder.mark) {
-            return None;
-        }
-    }
-    Some(Circuit { holder, reservation: reserver.map(|call| (call, clock)) })
-}
-
-// The circuits of a table of right length, if it is valid.
-pub fn read_table(table: &[u8]) -> Option<Vec<Circuit>> {
-    let circuits = table.chunks(CIRCUIT).map(read_circuit).collect::<Option<Vec<Circuit>>>()?;
-    let mut references = BTreeSet::new();
-    for circuit in &circuits {
+// "the repeated reference comes after all of them and names the later record, the lowest such if several": a holder's part is earlier than the
+// reservation's of the same record.
+fn repeated_reference(circuits: &[Circuit]) -> Option<Bad> {
+    let mut earlier = BTreeSet::new();
+    for (record, circuit) in circuits.iter().enumerate() {
         for call in circuit.holder.iter().chain(circuit.reservation.iter().map(|(call, _)| call)) {
-            if !references.insert(call.reference) {
-                return None;
+            if !earlier.insert(call.reference) {
+                return Some(Bad { reason: 45, record });
             }
         }
     }
-    Some(circuits)
+    None
+}
+
+// The circuits of a table of right length, if it is valid.
+pub fn read_table(table: &[u8]) -> Result<Vec<Circuit>, Bad> {
+    if let Some(bad) = bad_by_itself(table) {
+        return Err(bad);
+    }
+    let circuits: Vec<Circuit> = table.chunks(CIRCUIT).map(read_circuit).collect();
+    match repeated_reference(&circuits) {
+        Some(bad) => Err(bad),
+        None => Ok(circuits),
+    }
 }
 
 fn write_call(octets: &mut Vec<u8>, call: Option<&Call>) {
@@ -218,22 +274,29 @@ pub fn write_table(circuits: &[Circuit]) -> Vec<u8> {
     octets
 }
 
-pub fn check(table: &[u8]) -> u8 {
+// What the check gives: the number, and the record or 65535.
+#[derive(Clone, Copy, PartialEq, Eq, Debug)]
+pub struct Check {
+    pub number: u8,
+    pub record: u16,
+}
+
+pub fn check(table: &[u8]) -> Check {
     if !table_length_is_right(table.len()) {
-        20
-    } else if read_table(table).is_none() {
-        21
-    } else {
-        0
+        return Check { number: 20, record: NOWHERE };
+    }
+    match read_table(table) {
+        Err(bad) => Check { number: bad.reason, record: bad.record as u16 },
+        Ok(_) => Check { number: 0, record: NOWHERE },
     }
 }
 
-// Number, how many are lit, and the four words.
-pub fn lamps(table: &[u8]) -> (u8, u16, [u64; 4]) {
-    let number = check(table);
+// What the check gives, how many are lit, and the four words.
+pub fn lamps(table: &[u8]) -> (Check, u16, [u64; 4]) {
+    let check = check(table);
     let mut words = [0; 4];
     let mut lit = 0;
-    if number == 0 {
+    if check.number == 0 {
         for (place, circuit) in read_table(table).unwrap().iter().enumerate() {
             if circuit.is_free() {
                 words[place / 64] |= 1 << (place % 64);
@@ -241,7 +304,7 @@ pub fn lamps(table: &[u8]) -> (u8, u16, [u64; 4]) {
             }
         }
     }
-    (number, lit, words)
+    (check, lit, words)
 }
 
 // Events.
@@ -300,7 +363,7 @@ fn write_answer(octets: &mut [u8], answer: &Answer) {
         31 => 46,
         _ => 0,
     };
-    octets[2..4].copy_from_slice(&answer.place.map_or(65535, |place| place as u16).to_le_bytes());
+    octets[2..4].copy_from_slice(&answer.place.map_or(NOWHERE, |place| place as u16).to_le_bytes());
     write_lost(&mut octets[4..10], answer.lost_call);
     write_lost(&mut octets[10..16], answer.lost_reservation);
 }
@@ -396,8 +459,8 @@ fn take_clock(circuits: &mut [Circuit], clock: u32) -> Answer {
 fn apply(table: &mut [u8], event: &[u8], answer: &mut [u8]) {
     let given = match (read_event(event), read_table(table)) {
         (None, _) => refused(22),
-        (Some(_), None) => refused(21),
-        (Some(event), Some(mut circuits)) => {
+        (Some(_), Err(bad)) => Answer { number: bad.reason, place: Some(bad.record), ..Answer::default() },
+        (Some(event), Ok(mut circuits)) => {
             let given = match event {
                 Event::SetUp(call) => set_up(&mut circuits, call),
                 Event::Release(reference) => release(&mut circuits, reference),

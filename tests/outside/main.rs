@@ -1,4 +1,4 @@
-// Holds the library, which a program serves over pipes, to an independent implementation of document 01 and of document 02's L1.
+// Holds the library, which a program serves over pipes, to an independent implementation of document 01 and of document 02's L1 and L2.
 //
 //   outside SEED rounds COUNT SERVER..      so many rounds
 //   outside SEED seconds COUNT SERVER..     rounds for so long, with a line now and then
@@ -29,6 +29,7 @@ use traffic::{some_size, Route};
 const EVENTS_IN_LISTS: usize = 1024;
 const EVENTS_ALONE: usize = 128;
 const DAMAGED: usize = 256;
+const DAMAGED_BY_OCTET: usize = 8;
 const STRINGS: usize = 256;
 
 struct Tally {
@@ -37,6 +38,8 @@ struct Tally {
     events: usize,
     // How often each number stood in an answer of a list.
     numbers: [usize; 256],
+    // How often each number was given to the check of a damaged table.
+    checked: [usize; 256],
     // How often each number was given to a list that was to be added to totals.
     added: [usize; 256],
 }
@@ -70,6 +73,21 @@ fn events_alone(random: &mut Random, give: &mut dyn FnMut(Case)) {
     }
 }
 
+fn damaged(random: &mut Random, tally: &mut Tally, give: &mut dyn FnMut(Case)) {
+    let mut count = |case: Case| {
+        if case.what == "check" {
+            tally.checked[case.expected[0] as usize] += 1;
+        }
+        give(case);
+    };
+    for _ in 0..DAMAGED {
+        damage::cases(random, &mut count);
+    }
+    for _ in 0..DAMAGED_BY_OCTET {
+        damage::every_octet(random, &mut count);
+    }
+}
+
 fn days(random: &mut Random, tally: &mut Tally, give: &mut dyn FnMut(Case)) {
     days::cases(random, &mut |case| {
         tally.added[case.expected[0] as usize] += 1;
@@ -86,9 +104,7 @@ fn round(seed: u64, tally: &mut Tally, exchange: &mut Exchange) -> bool {
     };
     lists(&mut random, tally, &mut give);
     events_alone(&mut random, &mut give);
-    for _ in 0..DAMAGED {
-        damage::cases(&mut random, &mut give);
-    }
+    damaged(&mut random, tally, &mut give);
     for _ in 0..STRINGS {
         strings::cases(&mut random, &mut give);
     }
@@ -131,7 +147,7 @@ fn main() {
     paper::hold();
     let began = Instant::now();
     let mut said = began;
-    let mut tally = Tally { rounds: 0, calls: 0, events: 0, numbers: [0; 256], added: [0; 256] };
+    let mut tally = Tally { rounds: 0, calls: 0, events: 0, numbers: [0; 256], checked: [0; 256], added: [0; 256] };
     let mut exchange = Exchange::start(&words[3..]);
     loop {
         let done = if by_time { began.elapsed() >= Duration::from_secs(count) } else { tally.rounds == count };
@@ -148,6 +164,11 @@ fn main() {
         println!("{}", difference);
         exit(1);
     }
-    println!("outside: answers {}; lists for figures {}", met(&tally.numbers), met(&tally.added));
+    println!(
+        "outside: answers {}; damaged tables {}; lists for figures {}",
+        met(&tally.numbers),
+        met(&tally.checked),
+        met(&tally.added)
+    );
     say(&tally, began, ": no difference");
 }

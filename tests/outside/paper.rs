@@ -1,6 +1,7 @@
-// P1 to P12 and the paper's other examples, copied from document 01 by hand, and the figures of its nine events: the independent
-// implementation is held to them first.
+// P1 to P12 and the paper's other examples, copied from document 01 by hand, the figures of its nine events, and bad tables worked out by the
+// words of document 02's L2: the independent implementation is held to them first.
 
+use crate::independent::Check;
 use crate::{figures, independent};
 
 const SET_UP: u8 = 1;
@@ -60,12 +61,99 @@ fn hold_figures() {
     assert_eq!(totals, wanted);
 }
 
+// Three records: call 1 holds the first at ROUTINE and call 2 has it reserved at IMMEDIATE, call 3 holds the second at PRIORITY, the third is
+// free. Point code 1, zero domain; some octets are changed.
+fn three_records(changes: &[(usize, u8)]) -> [u8; 96] {
+    let mut table = [0; 96];
+    let first = [(0, 1), (1, 4), (7, 1), (10, 1), (12, 1), (13, 2), (19, 2), (22, 1), (24, 100)];
+    let second = [(32, 1), (33, 3), (39, 3), (42, 1)];
+    for (place, octet) in first.iter().chain(&second).chain(changes) {
+        table[*place] = *octet;
+    }
+    table
+}
+
+// What is changed, the number, and the record.
+type BadTable = (&'static [(usize, u8)], u8, u16);
+
+// One thing wrong, or what is not wrong.
+const ONE_FAULT: &[BadTable] = &[
+    (&[], 0, 65535),
+    (&[(1, 3)], 0, 65535),
+    (&[(13, 3), (2, 0x99), (14, 0x99), (11, 0x3f)], 0, 65535),
+    (&[(0, 2)], 41, 0),
+    (&[(12, 255)], 41, 0),
+    (&[(32, 2)], 41, 1),
+    (&[(76, 2)], 41, 2),
+    (&[(1, 5)], 41, 0),
+    (&[(13, 5)], 41, 0),
+    (&[(33, 15)], 41, 1),
+    (&[(2, 0xa0)], 42, 0),
+    (&[(2, 0x0a)], 42, 0),
+    (&[(3, 0xa0)], 42, 0),
+    (&[(15, 0x0a)], 42, 0),
+    (&[(34, 0xf0)], 42, 1),
+    (&[(11, 0x40)], 42, 0),
+    (&[(23, 0x80)], 42, 0),
+    (&[(0, 0)], 43, 0),
+    (&[(12, 0)], 43, 0),
+    (&[(65, 5)], 43, 2),
+    (&[(66, 0xa0)], 43, 2),
+    (&[(75, 0x40)], 43, 2),
+    (&[(59, 1)], 43, 1),
+    (&[(28, 1)], 43, 0),
+    (&[(95, 0x80)], 43, 2),
+    (&[(13, 4)], 44, 0),
+    (&[(1, 2)], 44, 0),
+    (&[(1, 1)], 44, 0),
+    (&[(6, 1)], 44, 0),
+    (&[(14, 0x10)], 44, 0),
+    (&[(39, 1)], 45, 1),
+    (&[(39, 2)], 45, 1),
+    (&[(19, 1)], 45, 0),
+];
+
+// Several things wrong: in one record, in two, and references that stand in an earlier part.
+const MORE_FAULTS: &[BadTable] = &[
+    (&[(2, 0xa0), (13, 5)], 41, 0),
+    (&[(14, 0xa0), (1, 5)], 41, 0),
+    (&[(28, 1), (14, 0xa0)], 42, 0),
+    (&[(12, 0), (2, 0xa0)], 42, 0),
+    (&[(28, 1), (13, 4)], 43, 0),
+    (&[(28, 1), (32, 2)], 43, 0),
+    (&[(13, 4), (32, 2)], 44, 0),
+    (&[(34, 0xa0), (76, 2)], 42, 1),
+    (&[(19, 1), (13, 4)], 44, 0),
+    (&[(19, 1), (28, 1)], 43, 0),
+    (&[(39, 1), (66, 1)], 43, 2),
+    (&[(19, 1), (34, 0xa0)], 42, 1),
+    (&[(19, 1), (76, 2)], 41, 2),
+    (&[(19, 1), (39, 1)], 45, 0),
+    (&[(64, 1), (71, 1), (74, 1)], 45, 2),
+    (&[(64, 1), (71, 3), (74, 1), (39, 2)], 45, 1),
+];
+
+// The check names the record; so does each event that is not malformed, and none changes the table.
+fn hold_bad_tables() {
+    for &(changes, number, record) in ONE_FAULT.iter().chain(MORE_FAULTS) {
+        let mut table = three_records(changes);
+        assert_eq!(independent::check(&table), Check { number, record }, "{:?}", changes);
+        if number == 0 {
+            continue;
+        }
+        assert_eq!(line(&mut table, event(RELEASE, 0, 1, 0)), (number, 0, record, 0));
+        assert_eq!(line(&mut table, event(0, 0, 1, 0)), (22, 0, 65535, 0));
+        assert_eq!(table, three_records(changes));
+    }
+}
+
 pub fn hold() {
     let table = &mut [0; 64];
     for (event, wanted) in listing() {
         assert_eq!(line(table, event), wanted);
     }
     hold_figures();
+    hold_bad_tables();
 
     for (reserved, clock, removed) in [(4294967000, 2703, 0), (4294967000, 2704, 1), (100, 99, 1)] {
         let table = &mut [0; 32];
@@ -86,5 +174,6 @@ pub fn hold() {
     let mut elsewhere = event(SET_UP, 1, 2, 0);
     elsewhere[6] = 1;
     assert_eq!(line(table, elsewhere), (31, 46, 65535, 0));
-    assert_eq!((independent::check(&[]), independent::check(&[0; 257 * 32])), (20, 20));
+    let wrong_length = Check { number: 20, record: 65535 };
+    assert_eq!((independent::check(&[]), independent::check(&[0; 257 * 32])), (wrong_length, wrong_length));
 }

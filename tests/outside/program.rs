@@ -1,4 +1,4 @@
-// What the programs decide and panel should write, by document 01 and the independent implementation; and cases for them.
+// What the programs decide and panel should write, by document 01, document 02's L2 and the independent implementation; and cases for them.
 //
 //   program decide | panel           the whole output, by the file circuits.bin and standard input
 //   program table CIRCUITS SEED      a valid table
@@ -11,6 +11,7 @@ mod case;
 mod figures;
 mod independent;
 mod random;
+mod table_file;
 mod traffic;
 
 use std::io::{self, Read, Write};
@@ -25,15 +26,6 @@ fn input() -> Vec<u8> {
     let mut octets = Vec::new();
     io::stdin().read_to_end(&mut octets).expect("standard input");
     octets
-}
-
-// The table, or the only line.
-fn table() -> Result<Vec<u8>, String> {
-    let table = fs::read("circuits.bin").map_err(|_| "no table\n".to_string())?;
-    match independent::check(&table) {
-        0 => Ok(table),
-        number => Err(format!("bad table {}\n", number)),
-    }
 }
 
 // Identity/point code or `-`, by the octets from the flag on.
@@ -61,7 +53,7 @@ fn short(input: &[u8]) -> String {
 }
 
 fn decide() -> String {
-    let (mut table, input) = match table() {
+    let (mut table, input) = match table_file::read("circuits.bin") {
         Ok(table) => (table, input()),
         Err(line) => return line,
     };
@@ -83,7 +75,7 @@ fn drawing(table: &[u8]) -> String {
 }
 
 fn panel() -> String {
-    let (mut table, input) = match table() {
+    let (mut table, input) = match table_file::read("circuits.bin") {
         Ok(table) => (table, input()),
         Err(line) => return line,
     };
