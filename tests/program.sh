@@ -54,10 +54,43 @@ for size in 0 1 31 33 8191 8193 8224 100000; do
     hold "a table of $size octets"
     only 'bad table 20'
 done
-for octet in 0 1 12 28; do
-    { zeros 32 && zeros $octet && printf '\002' && zeros $((31 - octet)); } >circuits.bin
-    hold "a record with octet $octet damaged"
-    only 'bad table 21'
+
+# Reason, record, and octets in octal by their places: two circuits, of which the first is held at ROUTINE by call 1, point code 1; these
+# octets of them are then changed. Each reason in each record, two in one record, in two, and a repeated reference beside another reason.
+while read -r reason record changes <&3; do
+    { printf '\001\004\000\000\000\000\000\001\000\000\001' && zeros 53; } >circuits.bin
+    for change in $changes; do
+        printf '%b' "\\0${change#*=}" | dd of=circuits.bin bs=1 seek="${change%=*}" conv=notrunc status=none
+    done
+    hold "two circuits with $changes"
+    only "bad table $reason $record"
+done 3<<'END'
+41 0  0=2
+41 0  1=5
+41 1  32=2
+41 1  44=2
+42 0  2=240
+42 0  11=100
+42 1  32=1 35=12
+43 0  0=0
+43 0  28=1
+43 1  33=2
+43 1  60=2
+44 0  12=1 13=4 19=2
+44 0  12=1 13=3 18=1 19=2
+45 0  12=1 13=3 19=1 22=1
+45 1  32=1 39=1 42=1
+45 1  44=1 51=1 54=1
+41 0  2=240 12=2
+42 0  2=240 31=1
+43 0  31=1 32=2
+44 0  12=1 13=4 19=1 22=1 32=1 39=1 42=1
+43 1  12=1 13=3 19=1 22=1 60=1
+END
+for record in 7 10 99 100 255; do
+    { zeros $((record * 32 + 31)) && printf '\001'; } >circuits.bin
+    hold "the last octet of record $record damaged"
+    only "bad table 43 $record"
 done
 
 zeros 64 >circuits.bin
@@ -191,13 +224,15 @@ long=$(zeros 5000 | tr '\000' x)
 cut=$(printf %.4096s "$long")
 mkdir folder
 zeros 33 >20.table
-{ printf '\002' && zeros 31; } >21.table
+{ printf '\002' && zeros 31; } >41.table
+{ zeros 60 && printf '\001' && zeros 3; } >43.table
 ended 'a missing table' 'no table\n' 'missing: No such file or directory' missing hour.events
 ended 'a folder for a table' 'no table\n' 'folder: Is a directory' folder hour.events
 ended 'no name for a table' 'no table\n' ': No such file or directory' '' hour.events
 ended 'a name too long for a table' 'no table\n' "$cut: File name too long" "$long" hour.events
 ended 'a table of 33 octets' 'bad table 20\n' '20.table: bad table' 20.table hour.events
-ended 'a damaged table' 'bad table 21\n' '21.table: bad table' 21.table hour.events
+ended 'a table with a wrong flag' 'bad table 41 0\n' '41.table: bad table' 41.table hour.events
+ended 'a table with an octet that should be zero' 'bad table 43 1\n' '43.table: bad table' 43.table hour.events
 ended 'missing events' '' 'missing: No such file or directory' hour.table missing
 ended 'a folder for events' '' 'folder: Is a directory' hour.table folder
 ended 'a name too long for events' '' "$cut: File name too long" hour.table "$long"
