@@ -34,15 +34,32 @@ static void lend_nothing(void)
     struct naustvri_reference reference = {1, 2};
     struct naustvri_precedence_reading of_precedence = naustvri_read_precedence(NOTHING, 0);
     struct naustvri_reference_reading of_reference = naustvri_read_reference(NOTHING, 0);
+    struct naustvri_check_reading of_check = naustvri_check(NOTHING, 0);
     struct naustvri_lamps_reading of_lamps = naustvri_lamps(NOTHING, 0);
-    uint8_t damaged[NAUSTVRI_CIRCUIT_SIZE] = {2};
     expect(of_precedence.number == NAUSTVRI_WRONG_LENGTH && of_precedence.value.service == 0, "read_precedence of nothing gives 20");
     expect(of_reference.number == NAUSTVRI_WRONG_LENGTH && of_reference.value.identity == 0, "read_reference of nothing gives 20");
-    expect(of_lamps.number == NAUSTVRI_WRONG_LENGTH && of_lamps.lit == 0, "lamps of nothing gives 20");
+    expect(of_check.number == NAUSTVRI_WRONG_LENGTH && of_check.record == NAUSTVRI_NO_PLACE, "check of nothing gives 20 and no record");
+    expect(of_lamps.number == NAUSTVRI_WRONG_LENGTH && of_lamps.record == NAUSTVRI_NO_PLACE, "lamps of nothing gives 20 and no record");
+    expect(of_lamps.lit == 0, "no lamp of nothing is lit");
     expect(naustvri_write_precedence(NOTHING, 0, precedence) == NAUSTVRI_WRONG_LENGTH, "write_precedence into nothing gives 20");
     expect(naustvri_write_reference(NOTHING, 0, reference) == NAUSTVRI_WRONG_LENGTH, "write_reference into nothing gives 20");
-    expect(naustvri_check(NOTHING, 0) == NAUSTVRI_WRONG_LENGTH, "check of nothing gives 20");
-    expect(naustvri_list(damaged, sizeof damaged, NOTHING, 0, NOTHING, 0) == NAUSTVRI_DONE, "no events over a table that is not valid give 0");
+}
+
+/* Two circuits, of which the second is bad. */
+static void lend_damaged(void)
+{
+    uint8_t table[2 * NAUSTVRI_CIRCUIT_SIZE] = {0}, answer[NAUSTVRI_ANSWER_SIZE] = {0}, event[NAUSTVRI_EVENT_SIZE] = {NAUSTVRI_CLOCK};
+    struct naustvri_check_reading check;
+    struct naustvri_lamps_reading lamps;
+    table[NAUSTVRI_CIRCUIT_SIZE + NAUSTVRI_CIRCUIT_HELD] = 2;
+    check = naustvri_check(table, sizeof table);
+    lamps = naustvri_lamps(table, sizeof table);
+    expect(check.number == NAUSTVRI_FLAG_OR_LEVEL && check.record == 1, "check gives the reason and the bad record");
+    expect(lamps.number == NAUSTVRI_FLAG_OR_LEVEL && lamps.record == 1 && lamps.lit == 0, "lamps gives them too, and none lit");
+    expect(naustvri_event(table, sizeof table, event, sizeof event, answer, sizeof answer) == NAUSTVRI_FLAG_OR_LEVEL, "event gives the reason");
+    expect(answer[NAUSTVRI_ANSWER_NUMBER] == NAUSTVRI_FLAG_OR_LEVEL, "the answer has the reason");
+    expect(answer[NAUSTVRI_ANSWER_PLACE] == 1 && answer[NAUSTVRI_ANSWER_PLACE + 1] == 0, "the answer has the bad record");
+    expect(naustvri_list(table, sizeof table, NOTHING, 0, NOTHING, 0) == NAUSTVRI_DONE, "no events over a table that is not valid give 0");
 }
 
 /* Some of three buffers empty: bit 0 of `empty` is the table, bit 1 the events, bit 2 the answers. */
@@ -133,6 +150,7 @@ int main(void)
 {
     unsigned empty;
     lend_nothing();
+    lend_damaged();
     for (empty = 0; empty < 8; empty++)
         lend_some(empty);
     for (empty = 0; empty < 16; empty++)

@@ -15,7 +15,8 @@ static uint8_t table[CIRCUITS * NAUSTVRI_CIRCUIT_SIZE], event[2 * NAUSTVRI_EVENT
  *   sLC lLC     set-up, look-ahead of call C at level L, LFB "allowed"
  *   rC cC k     release, cancel of call C; clock
  *   @N=XX       changes octet N of the event that the step before it made, before that is applied
- *   #N=XX       changes octet N of the table */
+ *   #N=XX       changes octet N of the table
+ *   =N+L>M      copies L octets of the table, from octet N on, to octet M on */
 static void make_event(const char *step)
 {
     static const char kinds[] = "srlck";
@@ -38,6 +39,13 @@ static void change(uint8_t *octets, const char *step)
     octets[place] = (uint8_t)strtoul(value + 1, NULL, 16);
 }
 
+static void copy(const char *step)
+{
+    char *rest;
+    unsigned long from = strtoul(step + 1, &rest, 10), octets = strtoul(rest + 1, &rest, 10), to = strtoul(rest + 1, NULL, 10);
+    memcpy(table + to, table + from, octets);
+}
+
 /* The number of a script's last event, over so many free circuits. */
 static int last_number(size_t circuits, const char *script)
 {
@@ -48,6 +56,10 @@ static int last_number(size_t circuits, const char *script)
     for (char *step = strtok(steps, " "); step != NULL; step = strtok(NULL, " ")) {
         if (step[0] == '#') {
             change(table, step);
+            continue;
+        }
+        if (step[0] == '=') {
+            copy(step);
             continue;
         }
         make_event(step);
@@ -62,12 +74,12 @@ static int last_number(size_t circuits, const char *script)
 static int check_zeros(void)
 {
     memset(table, 0, sizeof table);
-    return naustvri_check(table, NAUSTVRI_CIRCUIT_SIZE);
+    return naustvri_check(table, NAUSTVRI_CIRCUIT_SIZE).number;
 }
 
 static int short_event(void) { return naustvri_event(table, sizeof table, event, NAUSTVRI_EVENT_SIZE - 1, answer, NAUSTVRI_ANSWER_SIZE); }
 
-static int long_table(void) { return naustvri_check(table, NAUSTVRI_CIRCUIT_SIZE + 1); }
+static int long_table(void) { return naustvri_check(table, NAUSTVRI_CIRCUIT_SIZE + 1).number; }
 
 static int short_list(void) { return naustvri_list(table, sizeof table, event, 2 * NAUSTVRI_EVENT_SIZE, answer, NAUSTVRI_ANSWER_SIZE); }
 
@@ -126,9 +138,11 @@ static const struct {
     {"a release whose parameter is not zero", 1, "s41 r1@1=04", NULL},
     {"kind 0", 1, "k@0=00", NULL},
     {"writing a point code of 16384", 0, NULL, great_point_code},
-    {"a flag of 2", 1, "#0=02 s41", NULL},
-    {"one reference in two circuits", 2, "s41 s42 #39=01 k", NULL},
-    {"an octet left in an absent part", 1, "#7=01 s42", NULL},
+    {"set octet 0 of a circuit to 2", 1, "#0=02 k", NULL},
+    {"hold a circuit, then set octet 2 of it to 0xA0", 1, "s41 #2=a0 k", NULL},
+    {"set octet 28 of a circuit to 1", 1, "#28=01 k", NULL},
+    {"hold a circuit at ROUTINE, then copy its octets 0 to 11 to octets 12 to 23", 1, "s41 =0+12>12 k", NULL},
+    {"hold a circuit, then copy its 32 octets to another", 2, "s41 =0+32>32 k", NULL},
     {"look ahead with octet 1 of the parameter `43`", 1, "l31@1=43", NULL},
     {"look ahead with octet 1 of the parameter `04`", 1, "l31@1=04", NULL},
     {"set the same call up twice", 2, "s41 s41", NULL},
