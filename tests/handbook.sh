@@ -1,6 +1,7 @@
 #!/bin/sh
 # handbook.sh [ARCHIVE]: applies the events in docs/HANDBOOK.md and compares the answers and circuits printed there with the library's;
-# provokes every number in each way that its table of the numbers names; and follows its links. ARCHIVE: the library where it is built already.
+# provokes every number in each way that its table of the numbers names; compiles the C that it shows; and follows its links. ARCHIVE: the library
+# where it is built already.
 . "$(dirname "$0")/../scripts/machine.sh"
 need_compiler
 archive=${1:-$(library)}
@@ -28,6 +29,11 @@ awk -F ' *[|] *' '
     }' "$handbook" >"$out/ways"
 run_x86 "$out/provoke" >"$out/provoked"
 diff "$out/ways" "$out/provoked"
+
+# The C that it shows compiles without a warning.
+printf '#include <%s>\n' stdio.h naustvri.h >"$out/shown.c"
+sed -n '/^```c$/,/^```$/{/^```/!p;}' "$handbook" >>"$out/shown.c"
+"$xcc" -Wall -Wextra -Werror -Wno-unused-function -I "$repository/include" -fsyntax-only "$out/shown.c"
 
 # Every link within the handbook leads to a heading.
 sed -n 's/^##* //p' "$handbook" | tr 'A-Z ' 'a-z-' | tr -cd 'a-z0-9\n-' | sort >"$out/headings"

@@ -1,7 +1,7 @@
 #!/bin/sh
-# rust.sh [ARCHIVE]: the Rust package: its constants and tables are those of the header, the README shows its first page, it says what to do
-# where it finds no archive, it compiles with the standard library and without, and on x86-64 its tests pass against the library. Elsewhere
-# there is no Rust standard library for x86-64, so nothing is linked. ARCHIVE: the library where it is built already.
+# rust.sh [ARCHIVE]: the Rust package: its constants and tables are those of the header, the README shows its first page, what the handbook shows
+# compiles, it says what to do where it finds no archive, it compiles with the standard library and without, and on x86-64 its tests pass against
+# the library. Elsewhere there is no Rust standard library for x86-64, so nothing is linked. ARCHIVE: the library where it is built already.
 . "$(dirname "$0")/../scripts/machine.sh"
 need rustc=rustc cargo=cargo
 archive=${1:-$(library)}
@@ -26,6 +26,12 @@ rows=$(wc -l <"$out/header")
 
 sed -n '/^```rust$/,/^```$/{/^```/!p;}' "$repository/README.md" >"$out/shown"
 sed -n '/^\/\/! ```$/,/^\/\/! ```$/{/```/!p;}' "$package/src/lib.rs" | sed -E 's/^\/\/! ?//' | diff - "$out/shown"
+
+# compiled WORDS..: one crate as far as the compiler checks it, with nothing linked.
+compiled() { rustc --edition 2021 --crate-type lib --emit metadata "$@"; }
+compiled --crate-name naustvri --cfg 'feature="std"' -o "$out/libnaustvri.rmeta" "$package/src/lib.rs"
+sed -n '/^```rust$/,/^```$/{/^```/!p;}' "$repository/docs/HANDBOOK.md" >"$out/shown.rs"
+compiled --extern naustvri="$out/libnaustvri.rmeta" -A dead_code -o "$out/shown.rmeta" "$out/shown.rs"
 
 # refused ARCHIVE WORDS: the build is refused for a folder of the archive, by a line with these words.
 rustc --edition 2021 -o "$out/build" "$package/build.rs"
