@@ -10,33 +10,25 @@ fn version_of_package_and_archive() {
     assert_eq!(env!("CARGO_PKG_VERSION"), parts.join("."));
 }
 
+// The value that has a number, if there is one.
+fn of_number<T: Copy>(all: &[T], number_of: impl Fn(T) -> u8, number: u8) -> Option<T> {
+    all.iter()
+        .copied()
+        .find(|&value| number_of(value) == number)
+}
+
 #[test]
 fn enums_there_and_back() {
     for number in 0..=255 {
-        let level = Level::ALL
-            .iter()
-            .copied()
-            .find(|value| value.number() == number);
+        let level = of_number(Level::ALL, Level::number, number);
         assert_eq!(Level::from_number(number), level);
-        let lfb = Lfb::ALL
-            .iter()
-            .copied()
-            .find(|value| value.number() == number);
+        let lfb = of_number(Lfb::ALL, Lfb::number, number);
         assert_eq!(Lfb::from_number(number), lfb);
-        let kind = Kind::ALL
-            .iter()
-            .copied()
-            .find(|value| value.number() == number);
+        let kind = of_number(Kind::ALL, Kind::number, number);
         assert_eq!(Kind::from_number(number), kind);
-        let reason = Reason::ALL
-            .iter()
-            .copied()
-            .find(|value| value.number() == number);
+        let reason = of_number(Reason::ALL, Reason::number, number);
         assert_eq!(Reason::from_number(number), reason);
-        let refusal = Refusal::ALL
-            .iter()
-            .copied()
-            .find(|value| value.number() == number)
+        let refusal = of_number(Refusal::ALL, Refusal::number, number)
             .or(reason.map(|reason| Refusal::BadRecord { reason, record: 7 }));
         let made = Refusal::from_number(number, 7);
         assert_eq!(made, refusal.unwrap_or(Refusal::Unknown(number)));
@@ -98,11 +90,6 @@ fn texts() {
         (Level::Routine.name(), Kind::SetUp.to_string()),
         ("ROUTINE", String::from("set-up"))
     );
-    assert_eq!(Reason::NotZero.name(), "NOT_ZERO");
-    assert_eq!(
-        Reason::RepeatedReference.to_string(),
-        "a reference stands in an earlier part"
-    );
     assert_eq!(format!("[{:>9}]", Level::Flash), "[    FLASH]");
 }
 
@@ -115,6 +102,11 @@ fn refusals_are_errors() {
     assert_eq!(
         error.to_string(),
         "43 NOT_ZERO: an octet of an absent part, or of octets 28 to 31, is not zero, in record 7"
+    );
+    assert_eq!(Reason::NotZero.name(), "NOT_ZERO");
+    assert_eq!(
+        Reason::RepeatedReference.to_string(),
+        "a reference stands in an earlier part"
     );
     assert_eq!(
         Refusal::WrongLength.to_string(),
