@@ -243,7 +243,8 @@ uint8_t naustvri_list(uint8_t *table, size_t table_len, const uint8_t *events, s
 /* A list carried out as naustvri_list does it, and added to the totals in `figures`, which are all zero before the first list: 0, with
  * the table and the answers that naustvri_list leaves. 20 where a length is wrong (figures_len has to be 95); then 60 where no list can
  * be added, since figures[NAUSTVRI_FIGURE_LISTS] is 65,536 or more, or any of the totals is 2^64 - 4,096 or more. At 20 and 60 no buffer is
- * written. From zeros, after any lists over any tables, START + SEIZED == RELEASED + LOST + END, and no total is over 268,435,456. */
+ * written. A list over a table that is not valid is added too: its events count under 22 and the check's number. From zeros, after any lists
+ * over any tables, START + SEIZED == RELEASED + LOST + END, and no total is over 268,435,456. */
 uint8_t naustvri_figures(uint8_t *table, size_t table_len, const uint8_t *events, size_t events_len, uint8_t *answers,
                          size_t answers_len, uint64_t *figures, size_t figures_len);
 

@@ -80,7 +80,7 @@ pub fn list(table: &mut [u8], events: &[u8], answers: &mut [u8]) -> u8 {
 /// A list carried out as [`list`] does it, and added to the totals in `figures`, which are all zero before the first list: 0, with the table
 /// and the answers that [`list`] leaves. 20 where a length is wrong (`figures` has to have [`FIGURES`](crate::FIGURES) numbers); then 60 where no
 /// list can be added, since `figures[FIGURE_LISTS]` is 65,536 or more, or any of the totals is 2^64 - 4,096 or more. At 20 and 60 no buffer is
-/// written.
+/// written. A list over a table that is not valid is added too: its events count under 22 and the number that [`check`] gives.
 #[must_use]
 pub fn figures(table: &mut [u8], events: &[u8], answers: &mut [u8], figures: &mut [u64]) -> u8 {
     unsafe {
