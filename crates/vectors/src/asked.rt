@@ -34,11 +34,11 @@ fn word(words: [u64; 4], k: usize)
     text::digits(words[k], 16);
 }
 
-// Writes the lamp map: number, lit, the words with the highest first, the lowest lit lamp.
+// Writes the lamp map: number and bad record, lit, the words with the highest first, the lowest lit lamp.
 fn lamp_map(t: &[u8]) {
     let m = lamps::map(t);
     let words = m.words;
-    text::number(m.number as u64);
+    text::checked(m.number, m.detail);
     text::number(m.lit as u64);
     word(words, 3);
     word(words, 2);
@@ -53,10 +53,16 @@ fn levels() {
     text::barred(&numbers, 0, 5);
 }
 
+// Writes what the check gives for a table.
+fn checked(t: &[u8]) {
+    let check = validity::check(t);
+    text::checked(check.number, check.detail);
+}
+
 // Writes what the check gives for the first n octets of a table, with one octet changed.
 fn tried(mut t: [u8; TABLE], n: usize, place: u8, x: u8) {
     t[place as usize] = x;
-    text::number(validity::check(script::first(&t, n)) as u64);
+    checked(script::first(&t, n));
 }
 
 // Writes which octet of a table is meant, and what the check gives where that octet is changed to each value of the row in turn.
@@ -79,7 +85,7 @@ fn answer(scene: Scene, letter: u8, row: &[u8], given: &[u8], t: &[u8])
         b'P' => field::precedence(given),
         b'R' => field::reference(given),
         b'Q' | b'S' => field::written(letter, row),
-        b'V' => text::number(validity::check(t) as u64),
+        b'V' => checked(t),
         b'G' => chosen(row, t),
         b'W' => stands(row, t),
         b'X' => changed(scene, given),

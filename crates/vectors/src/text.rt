@@ -1,6 +1,7 @@
 // This module writes the cells of an answer to standard output, each after a space.
 use crate::script;
 use libc::STDOUT_FILENO;
+use rules::answer::NO_DETAIL;
 use rules::search::Found;
 
 pub fn put(text: &[u8]) {
@@ -18,6 +19,15 @@ pub fn number(n: u64) {
     }
     letter(b' ');
     io::print_decimal(STDOUT_FILENO, n);
+}
+
+// Writes what the check gives: its number, and behind a stroke the bad record, where there is one.
+pub fn checked(n: u8, detail: u16) {
+    number(n as u64);
+    if detail != NO_DETAIL {
+        letter(b'/');
+        io::print_decimal(STDOUT_FILENO, detail as u64);
+    }
 }
 
 // Writes a number by so many hexadecimal digits.
