@@ -7,7 +7,7 @@ use native.Mathlib.Omega.{arith}
 use lib.ListN.{length}
 use lib.Dec.{eqb, leb}
 use borrow.Author.Tests.{eqb-true, leb-true}
-use Rattle.octets.specs.Span.{span, put}
+use Rattle.octets.specs.Span.{put}
 use Rattle.octets.proofs.Tests.{and-left, and-right}
 use Rattle.octets.proofs.Spans.{span-all, put-whole}
 use Rattle.rules.specs.Numbers.{wrongLength}

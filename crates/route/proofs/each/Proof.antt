@@ -6,7 +6,7 @@ use lib.ListN.{length}
 use denote.Ref.{now}
 use native.Mathlib.Omega.{arith}
 use borrow.Author.Needs.{needs}
-use Rattle.octets.specs.Span.{span, put}
+use Rattle.octets.specs.Span.{put}
 use Rattle.rules.specs.Valid.{verdict}
 use Rattle.rules.specs.Run.{after, answerRecord}
 use Rattle.rules.specs.Records.{records, answerSize, eventIn}
