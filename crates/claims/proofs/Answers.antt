@@ -14,7 +14,7 @@ use Rattle.rules.specs.declared.outcome.Outcome.{Outcome}
 use Rattle.rules.specs.declared.outcome.Outcome.the-variants.{Refuse, Do, Clock}
 use Rattle.rules.specs.Circuit.{overdue, made}
 use Rattle.rules.specs.Numbers.{refusalNumber}
-use Rattle.rules.specs.Answer.{becomes, noDetail, anothers, answerOf}
+use Rattle.rules.specs.Answer.{becomes, refusalDetail, anothers, answerOf}
 use Rattle.rules.specs.Layout.{Layout}
 use Rattle.rules.specs.Valid.{valid}
 use Rattle.rules.specs.Run.{outcomeOf, after, answered}
@@ -49,7 +49,7 @@ module _ (e : Event) (i c : ℕ) (y : Circuit) where
 -- of any outcome, over circuits x
 pub answer-tells : (x : ℕ → Circuit) (n : ℕ) (e : Event) (c : ℕ) (o : Outcome) → afterAnswer e (answerOf x n e o .number) (answerOf x n e o .detail) c (x c) ≡ becomes e o c (x c)
 unfolding answerOf afterAnswer named
-answer-tells x n e c (Refuse r) = after-refusal e noDetail c (x c) (refusalNumber r) (omega (arith, refusal-high r))
+answer-tells x n e c (Refuse r) = after-refusal e (refusalDetail r) c (x c) (refusalNumber r) (omega (arith, refusal-high r))
 answer-tells x n e c (Do Seize i) =
     after-seizure e i c (x c) (x i .holder .present || anothers (e .reference) (x i .reservation) .present)
 answer-tells x n e c (Do Reserve i) = after-reserving e i c (x c) (x i .reservation .present)

@@ -1,55 +1,52 @@
 -- The check gives of a table what it gave before any event.
 use Prim.Native.Nat.{ℕ}
 use mathlib.Core.Path.{_≡_, refl, sym, ap, ap₂, _∙_}
-use mathlib.Core.Bool.{Bool, true, false, cond, true≢false}
+use mathlib.Core.Bool.{Bool, true, false, cond}
 use mathlib.Core.List.{List}
 use lib.ListN.{length}
 use Rattle.octets.proofs.Tests.{by-so}
 use Rattle.rules.specs.declared.verdict.Verdict.{Verdict}
-use Rattle.rules.specs.declared.verdict.Verdict.the-variants.{Valid, Fault}
-use Rattle.rules.specs.Numbers.{wrongLength}
-use Rattle.rules.specs.Valid.{isValid, verdictNumber, verdict, valid}
+use Rattle.rules.specs.Valid.{verdict, valid}
 use Rattle.rules.specs.Run.{after, run}
-use Rattle.rules.specs.Records.{records, tableLength, checkNumber, emptyTable}
+use Rattle.rules.specs.Records.{records, tableLength, checked, emptyTable}
 use Rattle.rules.proofs.Records.{lawful}
-use Rattle.rules.proofs.Kept.{valid-after, run-valid}
+use Rattle.rules.proofs.Faults.{valid-is}
+use Rattle.rules.proofs.Kept.{verdict-after, run-verdict}
 use Rattle.route.specs.Entries.{eventLengths, eventsIn, listLengths, listTable}
 use Rattle.route.proofs.Whole.{no-event}
 use Rattle.claims.specs.Lists.{tableAfter}
 use Rattle.claims.specs.OneByOne.{EventKeepsValid, ListKeepsValid, AlwaysValid}
+use Rattle.claims.proofs.Checks.{checkBy}
 use Rattle.claims.proofs.Octets.{length-after, length-run}
 use Rattle.claims.proofs.Refused.{table-then}
 use Rattle.claims.proofs.Demanded.{table-length, now, now-long}
 
-same-number : (v w : Verdict) → isValid v ≡ isValid w → verdictNumber v ≡ verdictNumber w
-same-number Valid Valid h = refl
-same-number Valid (Fault r i) h = absurd (true≢false h)
-same-number (Fault r i) Valid h = absurd (true≢false (sym h))
-same-number (Fault r i) (Fault s j) h = refl
+check-same : (t u : List ℕ) → length u ≡ length t → verdict records u ≡ verdict records t → checked u ≡ checked t
+unfolding checked
+check-same t u l v = ap₂ (λ (n : ℕ) (w : Verdict). checkBy (tableLength n) w) l v
 
-check-same : (t u : List ℕ) → length u ≡ length t → valid records u ≡ valid records t → checkNumber u ≡ checkNumber t
-unfolding checkNumber valid
-check-same t u l v =
-    ap₂ (λ (n k : ℕ). cond (tableLength n) k wrongLength) l (same-number (verdict records u) (verdict records t) v)
+-- events one after another, given by their octets
+pub run-checked : (es : List (List ℕ)) (t : List ℕ) → checked (run records t es) ≡ checked t
+run-checked es t = check-same t (run records t es) (length-run es t) (run-verdict records lawful es t)
 
 pub event-keeps-valid : EventKeepsValid
 event-keeps-valid t e place =
     by-so (eventLengths t e place)
-    (λ q. ap checkNumber (table-then t e place q) ∙ check-same t (after records t e) (length-after t e) (valid-after records lawful t e))
-    (λ q. ap checkNumber (sym (no-event t e place q .1 .0)))
+    (λ q. ap checked (table-then t e place q) ∙ check-same t (after records t e) (length-after t e) (verdict-after records lawful t e))
+    (λ q. ap checked (sym (no-event t e place q .1 .0)))
 
 pub list-keeps-valid : ListKeepsValid
 unfolding listTable
 list-keeps-valid t es places = go (listLengths t es places)
   where
-    go : (b : Bool) → checkNumber (cond b (run records t (eventsIn es)) t) ≡ checkNumber t
-    go true = check-same t (run records t (eventsIn es)) (length-run (eventsIn es) t) (run-valid records lawful (eventsIn es) t)
+    go : (b : Bool) → checked (cond b (run records t (eventsIn es)) t) ≡ checked t
+    go true = run-checked (eventsIn es) t
     go false = refl
 
 pub always-valid : AlwaysValid
-unfolding checkNumber valid
+unfolding checked valid
 always-valid n one many lists =
     let t = emptyTable n in
     let u = tableAfter t lists in
-    ap₂ (λ (b : Bool) (k : ℕ). cond b k wrongLength) (table-length u n (now-long n lists) one many)
-    (same-number (verdict records u) Valid (now n lists .still-valid))
+    ap₂ (λ (b : Bool) (v : Verdict). checkBy b v .number) (table-length u n (now-long n lists) one many)
+    (valid-is (verdict records u) (now n lists .still-valid))

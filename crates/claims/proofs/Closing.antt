@@ -16,21 +16,19 @@ use Rattle.rules.specs.declared.circuit.Circuit.{Circuit}
 use Rattle.rules.specs.declared.event.Event.{Event}
 use Rattle.rules.specs.declared.outcome.Act.{Act}
 use Rattle.rules.specs.declared.outcome.Act.the-variants.{Seize, Reserve, Release, Cancel}
-use Rattle.rules.specs.declared.outcome.Refusal.the-variants.{Malformed, TableNotValid}
 use Rattle.rules.specs.declared.outcome.Outcome.{Outcome}
 use Rattle.rules.specs.declared.outcome.Outcome.the-variants.{Refuse, Do, Clock}
 use Rattle.rules.specs.Search.{countTo}
 use Rattle.rules.specs.Circuit.{overdue, made}
-use Rattle.rules.specs.Event.{wellFormed}
 use Rattle.rules.specs.Numbers.{refusalNumber}
 use Rattle.rules.specs.Answer.{becomes, anothers, answerOf}
 use Rattle.rules.specs.Layout.{Layout}
 use Rattle.rules.specs.Valid.{valid}
-use Rattle.rules.specs.Run.{outcomeOf, after, answered}
+use Rattle.rules.specs.Run.{outcomeOf, effect, after, answered}
 use Rattle.rules.proofs.Numbers.{refusal-high}
 use Rattle.rules.proofs.Lawful.{Lawful}
 use Rattle.rules.proofs.Grounds.{Grounds, decided}
-use Rattle.rules.proofs.Kept.{refused-stays, not-valid-refused, count-after, view-after}
+use Rattle.rules.proofs.Kept.{not-valid-refused, count-after, view-after}
 use Rattle.tally.specs.Shares.{one, isSeizure, isRelease, holders}
 
 -- two counts whose tests differ at i alone: they are equal where i is not below n, and else they differ by these two tests

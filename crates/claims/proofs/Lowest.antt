@@ -2,31 +2,18 @@
 use Prim.Native.Nat.{ℕ, _<_}
 use mathlib.Core.Path.{_≡_, refl, sym, ap, _∙_}
 use mathlib.Core.Bool.{Bool, true, false, cond, _||_, not}
-use mathlib.Core.List.{List}
 use native.Mathlib.Omega.{arith}
-use lib.ListN.{length}
 use borrow.Author.Tests.{eqb-true, leb-true}
 use Rattle.octets.proofs.Tests.{and-left, and-right}
 use Rattle.rules.specs.declared.mark.Mark.{Mark}
 use Rattle.rules.specs.declared.part.Part.{Part}
 use Rattle.rules.specs.declared.circuit.Circuit.{Circuit}
-use Rattle.rules.specs.declared.verdict.Verdict.{Verdict}
-use Rattle.rules.specs.declared.verdict.Verdict.the-variants.{Valid, Fault}
 use Rattle.rules.specs.Fields.{routine, levelOk}
-use Rattle.rules.specs.Numbers.{wrongLength}
-use Rattle.rules.specs.Valid.{ifPresent, levelsOk, isValid, verdictNumber, verdict, valid}
-use Rattle.rules.specs.Records.{circuitAt, records, tableLength, checkNumber}
+use Rattle.rules.specs.Valid.{ifPresent, levelsOk}
+use Rattle.rules.specs.Records.{circuitAt, records}
 use Rattle.rules.proofs.Faults.{valid-facts}
+use Rattle.rules.proofs.Check.{check-done}
 use Rattle.claims.specs.Chosen.{Lower, RoutineTakesNothing}
-
-pub zero-valid : (t : List ℕ) → checkNumber t ≡ 0 → valid records t ≡ true
-unfolding checkNumber valid
-zero-valid t = go (tableLength (length t)) (verdict records t)
-  where
-    go : (b : Bool) (v : Verdict) → cond b (verdictNumber v) wrongLength ≡ 0 → isValid v ≡ true
-    go true Valid h = refl
-    go true (Fault r i) h = absurd (omega arith)
-    go false v h = absurd (omega arith)
 
 -- the level of a part that is present
 known : (p : Part) → ifPresent p (levelOk (p .mark .level .0)) ≡ true → p .present ≡ true → p .mark .level .0 < 5
@@ -55,4 +42,4 @@ none-below m y e ok low = go (y .reservation .present) (y .holder .present) refl
 pub routine-takes-nothing : RoutineTakesNothing
 unfolding records
 routine-takes-nothing t z m e c l =
-    none-below m (circuitAt t c) (eqb-true (m .level .0) routine e) (valid-facts records t (zero-valid t z) .levels c l)
+    none-below m (circuitAt t c) (eqb-true (m .level .0) routine e) (valid-facts records t (check-done t z .1) .levels c l)

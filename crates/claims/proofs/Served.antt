@@ -17,23 +17,24 @@ use Rattle.rules.specs.declared.event.Event.{Event}
 use Rattle.rules.specs.declared.search.Found.{Found}
 use Rattle.rules.specs.declared.search.Found.the-variants.{At, Nothing}
 use Rattle.rules.specs.declared.outcome.Act.the-variants.{Seize}
-use Rattle.rules.specs.declared.outcome.Refusal.the-variants.{Malformed, TableNotValid, NoCircuitForRoutine, NoCircuit}
+use Rattle.rules.specs.declared.outcome.Refusal.the-variants.{Malformed, NoCircuitForRoutine, NoCircuit}
 use Rattle.rules.specs.declared.outcome.Outcome.the-variants.{Refuse, Do}
+use Rattle.rules.specs.declared.verdict.Verdict.{Verdict}
 use Rattle.rules.specs.Search.{found}
 use Rattle.rules.specs.Circuit.{isRoutine, nobody, isOf, made}
 use Rattle.rules.specs.Choice.{heldBy, reservedBy, choice}
 use Rattle.rules.specs.Decision.{unless, blocked, setUp, decision}
 use Rattle.rules.specs.Numbers.{refusalNumber, causeOf}
-use Rattle.rules.specs.Answer.{noDetail, noLoser, losers, anothers, answerOf}
+use Rattle.rules.specs.Answer.{refusalDetail, noLoser, losers, anothers, answerOf}
 use Rattle.rules.specs.Layout.{Layout}
-use Rattle.rules.specs.Valid.{valid}
-use Rattle.rules.specs.Run.{outcomeOf, answered, answerRecord}
+use Rattle.rules.specs.Valid.{verdict, valid}
+use Rattle.rules.specs.Run.{ifSound, outcomeOf, answered, answerRecord}
 use Rattle.rules.specs.Records.{circuitAt, flag, loser, answerOctets, records, circuits, circuitSize, answerNumber, answerDetail}
 use Rattle.rules.proofs.Lawful.{Tidy}
 use Rattle.rules.proofs.Records.{lawful}
 use Rattle.rules.proofs.Searches.{first-none}
 use Rattle.rules.proofs.Choice.{ChoiceIs, choice-is}
-use Rattle.rules.proofs.Faults.{valid-facts}
+use Rattle.rules.proofs.Faults.{valid-is, valid-facts}
 use Rattle.claims.specs.History.{Turn, asked, afterAnswer, afterTurn, historyFrom}
 use Rattle.claims.specs.Demand.{StandsIn, NewSetUp, ForWant, wantOctets, loserOctets, seizedOctets, Answered}
 use Rattle.claims.proofs.Answers.{after-refusal, after-seizure}
@@ -57,13 +58,13 @@ module _ (x : ℕ → Circuit) (n : ℕ) (e : Event) (new : NewSetUp n x e) wher
   new-decision = simp (new .set-up, no-holder, no-reservation)
 
 new-decided : {S : Type 0} (L : Layout S) (s : S) (e : Event) → valid L s ≡ true → NewSetUp (L .count s) (L .view s) e → outcomeOf L s e ≡ found (choice (L .view s) (L .count s) (e .mark)) (Do Seize) (Refuse (blocked e))
-unfolding outcomeOf
+unfolding outcomeOf valid
 new-decided L s e v new =
-    ap₂ (λ (a b : Bool). unless a Malformed (unless b TableNotValid (decision (L .view s) (L .count s) e))) (new .well-formed) v
+    ap₂ (λ (b : Bool) (w : Verdict). unless b Malformed (ifSound w (decision (L .view s) (L .count s) e))) (new .well-formed) (valid-is (verdict L s) v)
     ∙ new-decision (L .view s) (L .count s) e new
 
 -- ---- the octets of the two answers
-want-octets : (b : Bool) → answerOctets (noLoser (refusalNumber (cond b NoCircuitForRoutine NoCircuit)) noDetail) ≡ wantOctets b
+want-octets : (b : Bool) → let r = cond b NoCircuitForRoutine NoCircuit in answerOctets (noLoser (refusalNumber r) (refusalDetail r)) ≡ wantOctets b
 want-octets true = refl
 want-octets false = refl
 

@@ -2,13 +2,15 @@
 use Prim.Native.Nat.{ℕ, _%_, _≤_, _<_, _*_, _/_}
 use mathlib.Core.Path.{_≡_}
 use mathlib.Core.Logic.{_↔_, _≢_}
+use mathlib.Core.Bool.{cond, _&&_}
 use mathlib.Core.List.{List, [], _∷_}
 use lib.ListN.{length, replicate}
+use lib.Dec.{leb}
 use Rattle.rules.specs.declared.circuit.Circuit.{Circuit}
 use Rattle.rules.specs.Numbers.{causeOf}
 use Rattle.rules.specs.Numbers as number
 use Rattle.rules.specs.Answer.{noDetail}
-use Rattle.rules.specs.Records.{checkNumber, circuitSize, mostCircuits, eventSize, mostEvents, answerSize, answerNumber, lostCall, lostReservation, emptyTable, answerFields, nobodyLost}
+use Rattle.rules.specs.Records.{checked, checkNumber, circuitSize, mostCircuits, eventSize, mostEvents, answerSize, answerNumber, lostCall, lostReservation, emptyTable, answerFields, nobodyLost}
 use Rattle.route.specs.Entries.{eventNumber, eventTable, eventAnswer, listNumber, listTable, listAnswers}
 use Rattle.claims.specs.History.{Turn, afterTurn}
 use Rattle.claims.specs.Lists.{EventList, tableAfter, past}
@@ -47,12 +49,12 @@ abbrev pub ReturnsNumber : Type 0
 ReturnsNumber =
     (t e place : List ℕ) → eventNumber t e place ≢ number.wrongLength → eventNumber t e place ≡ answerNumber (eventAnswer t e place)
 
--- "every event keeps a valid table valid": the check gives what it gave, after an event and after a list
+-- "every event keeps a valid table valid": the check gives the number and the record that it gave, after an event and after a list
 abbrev pub EventKeepsValid : Type 0
-EventKeepsValid = (t e place : List ℕ) → checkNumber (eventTable t e place) ≡ checkNumber t
+EventKeepsValid = (t e place : List ℕ) → checked (eventTable t e place) ≡ checked t
 
 abbrev pub ListKeepsValid : Type 0
-ListKeepsValid = (t es places : List ℕ) → checkNumber (listTable t es places) ≡ checkNumber t
+ListKeepsValid = (t es places : List ℕ) → checked (listTable t es places) ≡ checked t
 
 -- the check gives 0 after any lists from an empty table
 abbrev pub AlwaysValid : Type 0
@@ -62,11 +64,15 @@ AlwaysValid = (n : ℕ) → 1 ≤ n → n ≤ mostCircuits → (lists : List Eve
 abbrev pub RefusalKeepsTable : Type 0
 RefusalKeepsTable = (t e place : List ℕ) → number.wrongLength ≤ eventNumber t e place → eventTable t e place ≡ t
 
--- the answer to a refused event is the number, the cause, 65535 and zeros; at 20 nothing is written
+-- the detail of a refusal by number k over table t: the record that the check gives at 41 to 45, and 65535 at the others
+abbrev pub refusedDetail : List ℕ → ℕ → ℕ
+refusedDetail t k = cond (leb 41 k && leb k 45) (checked t .detail) noDetail
+
+-- the answer to a refused event is the number, the cause, the detail of a refusal and zeros; at 20 nothing is written
 abbrev pub RefusalAnswers : Type 0
 RefusalAnswers =
     (t e place : List ℕ) → number.wrongLength < eventNumber t e place
-    → eventAnswer t e place ≡ answerFields (eventNumber t e place) (causeOf (eventNumber t e place)) noDetail nobodyLost nobodyLost
+    → let k = eventNumber t e place in eventAnswer t e place ≡ answerFields k (causeOf k) (refusedDetail t k) nobodyLost nobodyLost
 
 -- a refusal keeps what the history shows, whatever circuit it showed; by HistoryTells the history is the table's own
 abbrev pub RefusalKeepsHistory : Type 0
