@@ -6,17 +6,16 @@ use mathlib.Core.List.{List}
 use lib.ListN.{length}
 use Rattle.octets.proofs.Tests.{by-so}
 use Rattle.rules.specs.declared.verdict.Verdict.{Verdict}
-use Rattle.rules.specs.Valid.{verdict, valid}
+use Rattle.rules.specs.Valid.{verdict}
 use Rattle.rules.specs.Run.{after, run}
 use Rattle.rules.specs.Records.{records, tableLength, checked, emptyTable}
 use Rattle.rules.proofs.Records.{lawful}
-use Rattle.rules.proofs.Faults.{valid-is}
 use Rattle.rules.proofs.Kept.{verdict-after, run-verdict}
 use Rattle.route.specs.Entries.{eventLengths, eventsIn, listLengths, listTable}
 use Rattle.route.proofs.Whole.{no-event}
 use Rattle.claims.specs.Lists.{tableAfter}
 use Rattle.claims.specs.OneByOne.{EventKeepsValid, ListKeepsValid, AlwaysValid}
-use Rattle.claims.proofs.Checks.{checkBy}
+use Rattle.claims.proofs.Checks.{checkBy, valid-done}
 use Rattle.claims.proofs.Octets.{length-after, length-run}
 use Rattle.claims.proofs.Refused.{table-then}
 use Rattle.claims.proofs.Demanded.{table-length, now, now-long}
@@ -24,10 +23,6 @@ use Rattle.claims.proofs.Demanded.{table-length, now, now-long}
 check-same : (t u : List ℕ) → length u ≡ length t → verdict records u ≡ verdict records t → checked u ≡ checked t
 unfolding checked
 check-same t u l v = ap₂ (λ (n : ℕ) (w : Verdict). checkBy (tableLength n) w) l v
-
--- events one after another, given by their octets
-pub run-checked : (es : List (List ℕ)) (t : List ℕ) → checked (run records t es) ≡ checked t
-run-checked es t = check-same t (run records t es) (length-run es t) (run-verdict records lawful es t)
 
 pub event-keeps-valid : EventKeepsValid
 event-keeps-valid t e place =
@@ -40,13 +35,10 @@ unfolding listTable
 list-keeps-valid t es places = go (listLengths t es places)
   where
     go : (b : Bool) → checked (cond b (run records t (eventsIn es)) t) ≡ checked t
-    go true = run-checked (eventsIn es) t
+    go true = check-same t (run records t (eventsIn es)) (length-run (eventsIn es) t) (run-verdict records lawful (eventsIn es) t)
     go false = refl
 
 pub always-valid : AlwaysValid
-unfolding checked valid
 always-valid n one many lists =
-    let t = emptyTable n in
-    let u = tableAfter t lists in
-    ap₂ (λ (b : Bool) (v : Verdict). checkBy b v .number) (table-length u n (now-long n lists) one many)
-    (valid-is (verdict records u) (now n lists .still-valid))
+    let u = tableAfter (emptyTable n) lists in
+    valid-done u (table-length u n (now-long n lists) one many) (now n lists .still-valid)

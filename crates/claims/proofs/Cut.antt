@@ -22,7 +22,7 @@ use Rattle.claims.proofs.Ran.{Ran, ran-append}
 -- ---- one list: table t, events es; `ran` and `given` are the table and the answers after some of them
 module _ (t es : List ℕ) where
   -- answer m of n
-  answer-at : (n m : ℕ) → m < n → answerIn (given t es n) m ≡ answerRecord records (ran t es m) (eventIn es m)
+  pub answer-at : (n m : ℕ) → m < n → answerIn (given t es n) m ≡ answerRecord records (ran t es m) (eventIn es m)
   answer-at zero m l = absurd (not-suc-le-zero l)
   answer-at (suc n) m l =
       let a = answerRecord records (ran t es n) (eventIn es n) in

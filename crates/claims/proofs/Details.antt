@@ -13,7 +13,7 @@ use Rattle.rules.specs.declared.search.Found.the-variants.{At, Nothing}
 use Rattle.rules.specs.declared.outcome.Act.{Act}
 use Rattle.rules.specs.declared.outcome.Act.the-variants.{Seize, Reserve, Release, Cancel}
 use Rattle.rules.specs.declared.outcome.Refusal.{Refusal}
-use Rattle.rules.specs.declared.outcome.Refusal.the-variants.{Malformed, BadRecord, NotAllowed, ByRoutine, AlreadyThere, MarkDiffers, HolderNotLower, NotThere, NoCircuitForRoutine, NoCircuit, NoCircuitToReserve}
+use Rattle.rules.specs.declared.outcome.Refusal.the-variants.{Malformed, NotAllowed, ByRoutine, AlreadyThere, MarkDiffers, HolderNotLower, NotThere, NoCircuitForRoutine, NoCircuit, NoCircuitToReserve}
 use Rattle.rules.specs.declared.outcome.Outcome.{Outcome}
 use Rattle.rules.specs.declared.outcome.Outcome.the-variants.{Refuse, Do, Clock}
 use Rattle.rules.specs.declared.verdict.Reason.{Reason}
@@ -25,9 +25,9 @@ use Rattle.rules.specs.Choice.{heldBy, reservedBy, choice}
 use Rattle.rules.specs.Event.{wellFormed}
 use Rattle.rules.specs.Fields.{allowed}
 use Rattle.rules.specs.Decision.{chosen, onReservation, standsNowhere, blocked, setUp, lookAhead, release, cancel, decision}
-use Rattle.rules.specs.Numbers.{reasonNumber, refusalNumber, wrongLength}
+use Rattle.rules.specs.Numbers.{reasonNumber, refusalNumber}
 use Rattle.rules.specs.Answer.{noDetail, refusalDetail}
-use Rattle.rules.specs.Valid.{checkOf, verdict}
+use Rattle.rules.specs.Valid.{verdict}
 use Rattle.rules.specs.Run.{outcomeOf}
 use Rattle.rules.specs.Records.{circuitAt, tableLength, circuits, records, checked}
 use Rattle.rules.proofs.Faults.{by-verdict}

@@ -19,6 +19,9 @@ pub mod Reservations
 pub mod Holders
 pub mod Alone
 pub mod Checked
+pub mod Reasons
+pub mod Named
+pub mod Passed
 pub mod Filled
 pub mod Carried
 pub mod Settled

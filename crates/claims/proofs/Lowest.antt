@@ -1,5 +1,5 @@
 -- ROUTINE is the lowest level that a valid table has, so nothing stands below it.
-use Prim.Native.Nat.{ℕ, _<_}
+use Prim.Native.Nat.{_<_}
 use mathlib.Core.Path.{_≡_, refl, sym, ap, _∙_}
 use mathlib.Core.Bool.{Bool, true, false, cond, _||_, not}
 use native.Mathlib.Omega.{arith}

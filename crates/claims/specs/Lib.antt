@@ -4,5 +4,6 @@ pub mod Chosen
 pub mod Demand
 pub mod Accidents
 pub mod OneByOne
+pub mod Named
 pub mod Instance
 pub mod Figures
