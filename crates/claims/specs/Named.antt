@@ -38,7 +38,8 @@ anyDiffers t o p n = anyBelow (λ k. not (eqb (octet t (o + k)) (octet t (p + k)
 abbrev pub eitherPart : (ℕ → Bool) → ℕ → Bool  -- f holds of the holder's part of record i or of the reservation's
 eitherPart f i = f (holder i) || f (reservation i)
 
--- ---- a part that begins at octet o: flag, level, domain at 2-6 with two digits each in 2 and 3, reference at 7-11 with its spare bits in 11
+-- ---- a part that begins at octet o: its octet 0 is the flag and 1 the level; 2-6 are the domain, with the four digits of the network
+-- identity in 2 and 3; 7-11 are the reference, with the two spare bits of its point code on top of 11
 abbrev pub present : List ℕ → ℕ → Bool  -- the part's flag is 1; else the part is absent
 present t o = eqb (octet t o) 1
 
@@ -51,7 +52,7 @@ badLevel t o = present t o && ltb 4 (octet t (o + 1))
 abbrev pub badDigit : ℕ → Bool  -- the digit in the high half of this octet or the one in its low half is above 9
 badDigit b = ltb 9 (b / 16) || ltb 9 (b % 16)
 
--- the part is present, and a digit is above 9 or one of the two top bits of octet 11 is set, which makes that octet 64 or more
+-- the part is present, and a digit is above 9, or a spare bit is set: then octet 11 is 64 or more
 abbrev pub badField : List ℕ → ℕ → Bool
 badField t o =
     present t o && (badDigit (octet t (o + 2)) || badDigit (octet t (o + 3)) || leb 64 (octet t (o + 11)))
@@ -82,7 +83,7 @@ notAbove t i =
     present t (holder i) && present t (reservation i)
     && (anyDiffers t (reservation i + 2) (holder i + 2) 5 || not (ltb (octet t (reservation i + 1)) (octet t (holder i + 1))))
 
-abbrev pub has : List ℕ → ℕ → ℕ → Bool  -- record i has reason k by itself, of the four
+abbrev pub has : List ℕ → ℕ → ℕ → Bool  -- record i has reason k, of the four that a record has by itself
 has t k i =
     cond (eqb k 41) (flagOrLevel t i)
     (cond (eqb k 42) (digitOrPointCode t i)
@@ -97,7 +98,8 @@ abbrev pub repeats : List ℕ → ℕ → Bool
 repeats t i = eitherPart (inLower t i) i || standsIn t (holder i) (reservation i)
 
 -- ---- "Tell us which record is bad"
--- "Reasons within records come first, lowest record first, in that order": record i has reason k and no earlier one, and no lower record any
+-- "Reasons within records come first, lowest record first, in that order": record i has reason k, it has no earlier one, and no lower
+-- record has any
 pub record FirstBad (t : List ℕ) (k i : ℕ) : Type 0 where
   pub bad : has t k i ≡ true
   pub first : (m : ℕ) → m < k → has t m i ≡ false
@@ -163,11 +165,15 @@ pub record PassedOn : Type 0 where
   pub list : (t es places : List ℕ) → listNumber t es places ≡ 0 → checkNumber t ≢ 0 → PassedList t es places
 
 -- ---- "41 to 45, in the order named, replace 21 in its place"
--- TwentyOneGone: no entry returns 21, and no answer that is written has it
+-- TwentyOneGone: the check, the event entry, the list entry and the figures return no 21, and no answer that is written has it; a list that
+-- is added to the figures has the list entry's answers, by SameAsList. The lamp map and the message fields stand in crates that this one
+-- does not cite: their contracts say which numbers they return.
 pub record TwentyOneGone : Type 0 where
   pub check : (t : List ℕ) → checkNumber t ≢ 21
   pub event : (t e place : List ℕ) → eventNumber t e place ≢ 21
   pub answer : (t e place : List ℕ) → eventNumber t e place ≢ 20 → answerNumber (eventAnswer t e place) ≢ 21
   pub list : (t es places : List ℕ) → listNumber t es places ≢ 21
-  pub answers : (t es places : List ℕ) → listNumber t es places ≡ 0 → (k : ℕ) → k < length es / 16 → answerNumber (answerIn (listAnswers t es places) k) ≢ 21
+  pub answers :
+      (t es places : List ℕ) → listNumber t es places ≡ 0
+      → (k : ℕ) → k < length es / 16 → answerNumber (answerIn (listAnswers t es places) k) ≢ 21
   pub figures : (t es places f : List ℕ) → figuresNumber t es places f ≢ 21
