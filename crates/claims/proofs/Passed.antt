@@ -6,8 +6,7 @@ use mathlib.Core.Bool.{Bool, true, false, cond, true≢false}
 use mathlib.Core.List.{List, [], _∷_}
 use native.Mathlib.Omega.{arith}
 use lib.ListN.{length}
-use borrow.Author.Tests.{eq-eqb}
-use Rattle.octets.proofs.Tests.{halves, and-both, by-test, not-so}
+use Rattle.octets.proofs.Tests.{halves, by-test, not-so}
 use Rattle.rules.specs.declared.event.Event.{Event}
 use Rattle.rules.specs.declared.verdict.Reason.{Reason}
 use Rattle.rules.specs.declared.verdict.Reason.the-variants.{FlagOrLevel, DigitOrPointCode, NotZero, NotAbove, Repeated}
@@ -30,6 +29,8 @@ use Rattle.tally.specs.Entry.{hasRoom, figuresLengths, figuresNumber}
 use Rattle.claims.specs.Named.{naming, passed, PassedOn, TwentyOneGone}
 use Rattle.claims.proofs.Octets.{answer-number}
 use Rattle.claims.proofs.Cut.{answer-at}
+use Rattle.claims.proofs.Demanded.{one-lengths}
+use Rattle.claims.proofs.Alone.{same-lengths}
 use Rattle.claims.proofs.Carried.{lengths-right, carried-out}
 use Rattle.claims.proofs.Checks.{valid-done, by-check}
 use Rattle.claims.proofs.Refused.{number-then, table-then, answer-then, answered-not, returns-number}
@@ -87,10 +88,6 @@ module _ (t es places : List ℕ) (carried : listNumber t es places ≡ 0) where
   unfolding listTable
   table-left = ap (λ (b : Bool). cond b (run records t (eventsIn es)) t) lengths
 
-one-lengths : (t e place : List ℕ) → tableLength (length t) ≡ true → length e ≡ 16 → length place ≡ 16 → eventLengths t e place ≡ true
-unfolding eventLengths
-one-lengths t e place l sixteen room = and-both _ _ l (and-both _ _ (eq-eqb (length e) 16 sixteen) (eq-eqb (length place) 16 room))
-
 -- a bad table stays as it is, so each event of a list is answered as it would be alone
 passed-after : (t : List ℕ) → tableLength (length t) ≡ true → checkNumber t ≢ 0 → (es : List (List ℕ)) (e : List ℕ) → answerRecord records (run records t es) e ≡ passed t e
 passed-after t l bad es e =
@@ -101,7 +98,7 @@ passed-on =
     record {
       event = λ t e place right sixteen room bad.
           let l = right-length t .1 right in
-          let q = one-lengths t e place l sixteen room in
+          let q = sym (same-lengths t e place sixteen) ∙ one-lengths t e place l sixteen room in
           let answer = passed-answer t l bad e in
           record {
             answer = answer-then t e place q ∙ answer;

@@ -15,6 +15,9 @@ use Rattle.rules.specs.Records.{eventAt, eventIn, answerIn, answerNumber, check
 use Rattle.route.specs.Entries.{eventNumber, eventTable, eventAnswer, listNumber, listTable, listAnswers}
 use Rattle.tally.specs.Entry.{figuresNumber}
 
+abbrev pub checkRecord : List ℕ → ℕ  -- the record that the check gives, as checkNumber is the number
+checkRecord t = checked t .detail
+
 -- ---- the octets of a table
 abbrev pub octet : List ℕ → ℕ → ℕ  -- octet o of table t
 octet t o = getD t o 0
@@ -117,15 +120,15 @@ pub record FirstRepeated (t : List ℕ) (i : ℕ) : Type 0 where
 
 -- FaultNamed: what the number and the record that the check gives say of the table's octets
 pub record FaultNamed : Type 0 where
-  pub by-itself : (t : List ℕ) → 41 ≤ checkNumber t → checkNumber t ≤ 44 → FirstBad t (checkNumber t) (checked t .detail)
-  pub among-others : (t : List ℕ) → checkNumber t ≡ 45 → FirstRepeated t (checked t .detail)
+  pub by-itself : (t : List ℕ) → 41 ≤ checkNumber t → checkNumber t ≤ 44 → FirstBad t (checkNumber t) (checkRecord t)
+  pub among-others : (t : List ℕ) → checkNumber t ≡ 45 → FirstRepeated t (checkRecord t)
 
 -- RecordThere: at 41 to 45 the record is one of the table's, at 0 and 20 it is 65535, and the check gives no other number
 abbrev pub RecordThere : Type 0
 RecordThere =
     (t : List ℕ)
     → let k = checkNumber t in
-    let i = checked t .detail in
+    let i = checkRecord t in
     (((k ≡ 0) ⊎ (k ≡ 20)) × (i ≡ 65535)) ⊎ ((41 ≤ k) × (k ≤ 45) × (i < length t / 32))
 
 -- "A table is 1 to 256 such records (32 to 8,192 octets)"
@@ -146,7 +149,7 @@ naming k i = k ∷ 0 ∷ octets 2 i ++ replicate 12 0
 
 -- what is answered to event e over a bad table t: what the check gives; but a malformed event is answered by 22 with 65535
 abbrev pub passed : List ℕ → List ℕ → List ℕ
-passed t e = cond (wellFormed (eventAt e)) (naming (checkNumber t) (checked t .detail)) (naming 22 65535)
+passed t e = cond (wellFormed (eventAt e)) (naming (checkNumber t) (checkRecord t)) (naming 22 65535)
 
 -- the event entry leaves that answer, returns its number and keeps the table
 pub record Passed (t e place : List ℕ) : Type 0 where
