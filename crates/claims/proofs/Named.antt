@@ -21,7 +21,7 @@ use Rattle.rules.proofs.Searches.{nothing-found}
 use Rattle.rules.proofs.Faults.{Facts, valid-is, record-valid, valid-facts}
 use Rattle.rules.proofs.FirstFault.{InRecord, InPart, VerdictIs, verdict-is}
 use Rattle.rules.proofs.Check.{length-facts, check-done}
-use Rattle.claims.specs.Named.{flagOrLevel, digitOrPointCode, notZero, notAbove, has, repeats, FirstBad, NoneBad, FirstRepeated, FaultNamed, RecordThere, RightLength, ValidAsBefore}
+use Rattle.claims.specs.Named.{flagOrLevel, digitOrPointCode, notZero, notAbove, has, repeats, FirstBad, NoneBad, FirstRepeated, FaultNamed, RecordThere, RightLength, ValidExactly}
 use Rattle.claims.proofs.Demanded.{table-length}
 use Rattle.claims.proofs.Checks.{by-check}
 use Rattle.claims.proofs.Reasons.{record-is, repeats-is}
@@ -135,8 +135,8 @@ record-there t =
     by-check (λ c. (((c .number ≡ 0) ⊎ (c .number ≡ 20)) × (c .detail ≡ 65535)) ⊎ ((41 ≤ c .number) × (c .number ≤ 45) × (c .detail < length t / 32))) t (λ l. inl (inr refl, refl)) (λ l v. inl (inl refl, refl))
     (λ l r i v. inr (reason-within r .0, reason-within r .1, fault-is t r i v .0))
 
-pub valid-as-before : ValidAsBefore
-valid-as-before =
+pub valid-exactly : ValidExactly
+valid-exactly =
     record {
       valid = λ t. (
         λ h.

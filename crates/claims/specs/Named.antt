@@ -137,8 +137,8 @@ pub record RightLength (t : List ℕ) : Type 0 where
   pub some : 32 ≤ length t
   pub most : length t ≤ 8192
 
--- a table is valid exactly when it was before: at a right length, with none of the five reasons in any record
-pub record ValidAsBefore : Type 0 where
+-- the check gives 0 exactly at a right length and with none of the five reasons in any record, and 20 exactly at a wrong length
+pub record ValidExactly : Type 0 where
   pub valid : (t : List ℕ) → (checkNumber t ≡ 0) ↔ (RightLength t × NoneBad t × ((i : ℕ) → i < length t / 32 → repeats t i ≡ false))
   pub wrong : (t : List ℕ) → (checkNumber t ≡ 20) ↔ (RightLength t → ⊥)
 
