@@ -15,7 +15,7 @@ use Rattle.route.specs.Entries.{eventLengths, eventsIn, listLengths, listTable}
 use Rattle.route.proofs.Whole.{no-event}
 use Rattle.claims.specs.Lists.{tableAfter}
 use Rattle.claims.specs.OneByOne.{EventKeepsValid, ListKeepsValid, AlwaysValid}
-use Rattle.claims.proofs.Checks.{checkBy, valid-done}
+use Rattle.rules.proofs.Check.{checkBy, valid-done}
 use Rattle.claims.proofs.Octets.{length-after, length-run}
 use Rattle.claims.proofs.Refused.{table-then}
 use Rattle.claims.proofs.Demanded.{table-length, now, now-long}

@@ -31,7 +31,7 @@ use Rattle.rules.specs.Valid.{verdict}
 use Rattle.rules.specs.Run.{outcomeOf}
 use Rattle.rules.specs.Records.{circuitAt, tableLength, circuits, records, checked}
 use Rattle.rules.proofs.Faults.{by-verdict}
-use Rattle.claims.proofs.Checks.{checkBy}
+use Rattle.rules.proofs.Check.{checkBy}
 
 -- d is the record that the check gives
 module _ (d : ℕ) where

@@ -9,7 +9,6 @@ pub mod Lowest
 pub mod Served
 pub mod Demanded
 pub mod Instanced
-pub mod Checks
 pub mod Details
 pub mod Refused
 pub mod Marks

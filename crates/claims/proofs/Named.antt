@@ -23,7 +23,7 @@ use Rattle.rules.proofs.FirstFault.{InRecord, InPart, VerdictIs, verdict-is}
 use Rattle.rules.proofs.Check.{length-facts, check-done}
 use Rattle.claims.specs.Named.{flagOrLevel, digitOrPointCode, notZero, notAbove, has, repeats, FirstBad, NoneBad, FirstRepeated, FaultNamed, RecordThere, RightLength, ValidExactly}
 use Rattle.claims.proofs.Demanded.{table-length}
-use Rattle.claims.proofs.Checks.{by-check}
+use Rattle.rules.proofs.Check.{by-check}
 use Rattle.claims.proofs.Reasons.{record-is, repeats-is}
 
 module _ (t : List ℕ) where

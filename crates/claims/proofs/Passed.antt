@@ -19,10 +19,11 @@ use Rattle.rules.specs.Decision.{unless, decision}
 use Rattle.rules.specs.Numbers.{reasonNumber}
 use Rattle.rules.specs.Answer.{answerOf}
 use Rattle.rules.specs.Valid.{valid}
-use Rattle.rules.specs.Run.{ifSound, outcomeOf, effect, after, answered, answerRecord, run}
+use Rattle.rules.specs.Run.{ifSound, outcomeOf, after, answered, answerRecord, run}
 use Rattle.rules.specs.Records.{circuitAt, circuits, tableLength, eventAt, eventIn, answerOctets, answerIn, answerNumber, records, checkNumber}
 use Rattle.rules.proofs.Numbers.{reason-high}
-use Rattle.rules.proofs.Kept.{not-valid-refused}
+use Rattle.rules.proofs.Records.{lawful}
+use Rattle.rules.proofs.Kept.{not-valid-stays}
 use Rattle.route.specs.Entries.{eventsTo, eventsIn, eventLengths, eventNumber, listLengths, listNumber, listTable, listAnswers}
 use Rattle.route.proofs.Listed.{ran, given}
 use Rattle.tally.specs.Entry.{hasRoom, figuresLengths, figuresNumber}
@@ -32,7 +33,7 @@ use Rattle.claims.proofs.Cut.{answer-at}
 use Rattle.claims.proofs.Demanded.{one-lengths}
 use Rattle.claims.proofs.Alone.{same-lengths}
 use Rattle.claims.proofs.Carried.{lengths-right, carried-out}
-use Rattle.claims.proofs.Checks.{valid-done, by-check}
+use Rattle.rules.proofs.Check.{valid-done, by-check}
 use Rattle.claims.proofs.Refused.{number-then, table-then, answer-then, answered-not, returns-number}
 use Rattle.claims.proofs.Named.{right-length}
 
@@ -62,9 +63,7 @@ module _ (t : List ℕ) (l : tableLength (length t) ≡ true) (bad : checkNumber
       go i r false = refl
 
   stays : (e : List ℕ) → after records t e ≡ t
-  unfolding after effect records
-  stays e =
-      not-valid-refused records (λ o. effect records t (eventAt e) o ≡ t) t (eventAt e) (not-so (valid records t) (λ v. bad (valid-done t l v))) (λ r. refl)
+  stays e = not-valid-stays records lawful t e (not-so (valid records t) (λ v. bad (valid-done t l v)))
 
   pub run-stays : (es : List (List ℕ)) → run records t es ≡ t
   run-stays [] = refl
