@@ -58,7 +58,7 @@ extern "C" {
     next(NAUSTVRI_DIGIT_OR_POINT_CODE, 42, "a digit of a present part is above 9, or a spare bit of its point code is set") \
     next(NAUSTVRI_NOT_ZERO, 43, "an octet of an absent part, or of octets 28 to 31, is not zero") \
     next(NAUSTVRI_NOT_ABOVE_HOLDER, 44, "the reservation is not strictly above the holder in the same domain") \
-    next(NAUSTVRI_REPEATED_REFERENCE, 45, "a reference stands in an earlier part") \
+    next(NAUSTVRI_REPEATED_REFERENCE, 45, "the reference of a present part stands in an earlier present part") \
     next(NAUSTVRI_LOOK_AHEAD_NOT_ALLOWED, 23, "a look-ahead whose LFB is not \"allowed\"") \
     next(NAUSTVRI_LOOK_AHEAD_BY_ROUTINE, 24, "a look-ahead by ROUTINE") \
     next(NAUSTVRI_ALREADY_PRESENT, 25, "set-up by a call that holds a circuit; look-ahead by one that holds or has reserved one") \
@@ -224,8 +224,8 @@ uint8_t naustvri_write_reference(uint8_t *buffer, size_t buffer_len, struct naus
 
 /* Number 0 for a valid table, 20 for a length that is not 1 to 256 whole circuits; else 41 to 45 and the record that is bad. That is the
  * lowest record that has any of 41 to 44, with the first of them that it has: 41 of either part goes before 42 of either, and so on. Where no
- * record has any of them it is the lowest at 45: a part of it has a reference that stands in an earlier part, of a lower record or, for the
- * reservation's part, of the same record. */
+ * record has any of them it is the lowest at 45: a present part of it has a reference that stands in an earlier present part, of a lower record
+ * or, for the reservation's part, of the same record. */
 struct naustvri_check_reading naustvri_check(const uint8_t *table, size_t table_len);
 
 /* One event of 16 octets applied to a table of 1 to 256 whole circuits, with 16 octets for the answer: the answer's number. At 20

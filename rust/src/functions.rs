@@ -37,8 +37,8 @@ pub fn write_reference(buffer: &mut [u8], value: Reference) -> u8 {
 
 /// Number 0 for a valid table, 20 for a length that is not 1 to 256 whole circuits; else 41 to 45 and the record that is bad. That is the lowest
 /// record that has any of 41 to 44, with the first of them that it has: 41 of either part goes before 42 of either, and so on. Where no record
-/// has any of them it is the lowest at 45: a part of it has a reference that stands in an earlier part, of a lower record or, for the reservation's
-/// part, of the same record.
+/// has any of them it is the lowest at 45: a present part of it has a reference that stands in an earlier present part, of a lower record or, for
+/// the reservation's part, of the same record.
 pub fn check(table: &[u8]) -> Check {
     unsafe { raw::naustvri_check(table.as_ptr(), table.len()) }
 }

@@ -46,8 +46,8 @@ macro_rules! refusals {
                 }
             }
 
-            /// The refusal of a number, and of the record that the library names beside it. Only [`BadRecord`](Refusal::BadRecord) keeps the
-            /// record; [`NO_PLACE`](crate::NO_PLACE) stands for none.
+            /// The refusal of a number, and of the record that the library names beside it: at [`FLAG_OR_LEVEL`](crate::FLAG_OR_LEVEL) to
+            /// [`REPEATED_REFERENCE`](crate::REPEATED_REFERENCE) the bad one, at the others [`NO_PLACE`](crate::NO_PLACE), which is not kept.
             #[must_use]
             pub const fn from_number(number: u8, record: u16) -> Refusal {
                 match number {

@@ -47,7 +47,7 @@ table! {
     DIGIT_OR_POINT_CODE = 42, "a digit of a present part is above 9, or a spare bit of its point code is set";
     NOT_ZERO = 43, "an octet of an absent part, or of octets 28 to 31, is not zero";
     NOT_ABOVE_HOLDER = 44, "the reservation is not strictly above the holder in the same domain";
-    REPEATED_REFERENCE = 45, "a reference stands in an earlier part";
+    REPEATED_REFERENCE = 45, "the reference of a present part stands in an earlier present part";
     LOOK_AHEAD_NOT_ALLOWED = 23, "a look-ahead whose LFB is not \"allowed\"";
     LOOK_AHEAD_BY_ROUTINE = 24, "a look-ahead by ROUTINE";
     ALREADY_PRESENT = 25, "set-up by a call that holds a circuit; look-ahead by one that holds or has reserved one";

@@ -106,7 +106,7 @@ fn refusals_are_errors() {
     assert_eq!(Reason::NotZero.name(), "NOT_ZERO");
     assert_eq!(
         Reason::RepeatedReference.to_string(),
-        "a reference stands in an earlier part"
+        "the reference of a present part stands in an earlier present part"
     );
     assert_eq!(
         Refusal::WrongLength.to_string(),

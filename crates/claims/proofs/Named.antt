@@ -10,13 +10,13 @@ use lib.Dec.{eqb}
 use borrow.Author.Tests.{eqb-true}
 use Rattle.octets.proofs.Tests.{by-eq, by-test}
 use Rattle.rules.specs.declared.verdict.Reason.{Reason}
-use Rattle.rules.specs.declared.verdict.Reason.the-variants.{FlagOrLevel, DigitOrPointCode, NotZero, NotAbove, Repeated}
+use Rattle.rules.specs.declared.verdict.Reason.the-variants.{FlagOrLevel, DigitOrPointCode, NotZero, NotAbove}
 use Rattle.rules.specs.declared.verdict.Verdict.{Verdict}
 use Rattle.rules.specs.declared.verdict.Verdict.the-variants.{Valid, Fault}
 use Rattle.rules.specs.Numbers.{reasonNumber}
 use Rattle.rules.specs.Valid.{partNumbered, clash, repeated, recordVerdict, verdict}
 use Rattle.rules.specs.Records.{circuitAt, circuits, tableLength, records}
-use Rattle.rules.proofs.Numbers.{reason-high}
+use Rattle.rules.proofs.Numbers.{reason-within}
 use Rattle.rules.proofs.Searches.{nothing-found}
 use Rattle.rules.proofs.Faults.{Facts, valid-is, record-valid, valid-facts}
 use Rattle.rules.proofs.FirstFault.{InRecord, InPart, VerdictIs, verdict-is}
@@ -108,13 +108,6 @@ module _ (t : List ℕ) where
   )
 
 -- ---- the claims
-reason-within : (r : Reason) → (41 ≤ reasonNumber r) × (reasonNumber r ≤ 45)
-reason-within FlagOrLevel = omega arith
-reason-within DigitOrPointCode = omega arith
-reason-within NotZero = omega arith
-reason-within NotAbove = omega arith
-reason-within Repeated = omega arith
-
 pub fault-named : FaultNamed
 fault-named =
     record {
@@ -148,7 +141,7 @@ valid-exactly =
             (λ l r i v. absurd (no-fault t r i (h .1) (h .2) (fault-is t r i v))),
       );
       wrong = λ t. (
-        by-check (λ c. c .number ≡ 20 → RightLength t → ⊥) t (λ l e r. true≢false (sym (right-length t .1 r) ∙ l)) (λ l v e. absurd (omega arith)) (λ l r i v e. absurd (omega (arith, reason-high r))),
+        by-check (λ c. c .number ≡ 20 → RightLength t → ⊥) t (λ l e r. true≢false (sym (right-length t .1 r) ∙ l)) (λ l v e. absurd (omega arith)) (λ l r i v e. absurd (omega (arith, reason-within r .0))),
         λ h.
             by-check (λ c. c .number ≡ 20) t (λ l. refl) (λ l v. absurd (h (right-length t .0 l))) (λ l r i v. absurd (h (right-length t .0 l))),
       );

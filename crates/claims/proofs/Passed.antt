@@ -21,7 +21,7 @@ use Rattle.rules.specs.Answer.{answerOf}
 use Rattle.rules.specs.Valid.{valid}
 use Rattle.rules.specs.Run.{ifSound, outcomeOf, after, answered, answerRecord, run}
 use Rattle.rules.specs.Records.{circuitAt, circuits, tableLength, eventAt, eventIn, answerOctets, answerIn, answerNumber, records, checkNumber}
-use Rattle.rules.proofs.Numbers.{reason-high}
+use Rattle.rules.proofs.Numbers.{reason-within}
 use Rattle.rules.proofs.Records.{lawful}
 use Rattle.rules.proofs.Kept.{not-valid-stays}
 use Rattle.route.specs.Entries.{eventsTo, eventsIn, eventLengths, eventNumber, listLengths, listNumber, listTable, listAnswers}
@@ -126,7 +126,7 @@ pub twenty-one-gone : TwentyOneGone
 unfolding listNumber figuresNumber
 twenty-one-gone =
     record {
-      check = λ t. by-check (λ c. c .number ≢ 21) t (λ l e. omega arith) (λ l v e. omega arith) (λ l r i v e. omega (arith, reason-high r));
+      check = λ t. by-check (λ c. c .number ≢ 21) t (λ l e. omega arith) (λ l v e. omega arith) (λ l r i v e. omega (arith, reason-within r .0));
       event = event-not;
       answer = λ t e place written h. event-not t e place (returns-number t e place written ∙ h);
       list = λ t es places. by-test Other (listLengths t es places) 0 20 (λ q h. omega arith) (λ q h. omega arith);

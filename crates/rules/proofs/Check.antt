@@ -15,7 +15,7 @@ use Rattle.rules.specs.Numbers.{done, wrongLength}
 use Rattle.rules.specs.Answer.{noDetail}
 use Rattle.rules.specs.Valid.{isValid, checkOf, verdict, valid}
 use Rattle.rules.specs.Records.{circuits, circuitSize, mostCircuits, tableLength, records, checked, checkNumber}
-use Rattle.rules.proofs.Numbers.{reason-high}
+use Rattle.rules.proofs.Numbers.{reason-within}
 use Rattle.rules.proofs.Faults.{valid-is}
 use Rattle.rules.proofs.FirstFault.{fault-there}
 
@@ -50,12 +50,12 @@ pub check-done : (t : List ℕ) → checkNumber t ≡ done → (tableLength (len
 unfolding valid
 check-done t =
     by-check (λ c. c .number ≡ done → (tableLength (length t) ≡ true) × (valid records t ≡ true)) t (λ l h. absurd (omega arith)) (λ l v h. (l, ap isValid v))
-    (λ l r i v h. absurd (omega (arith, reason-high r)))
+    (λ l r i v h. absurd (omega (arith, reason-within r .0)))
 
 -- where the check gives 0 it names no record
 pub done-detail : (t : List ℕ) → checkNumber t ≡ done → checked t .detail ≡ noDetail
 done-detail t =
-    by-check (λ c. c .number ≡ done → c .detail ≡ noDetail) t (λ l h. refl) (λ l v h. refl) (λ l r i v h. absurd (omega (arith, reason-high r)))
+    by-check (λ c. c .number ≡ done → c .detail ≡ noDetail) t (λ l h. refl) (λ l v h. refl) (λ l r i v h. absurd (omega (arith, reason-within r .0)))
 
 pub check-most : (t : List ℕ) → checkNumber t ≡ done → circuits t ≤ mostCircuits
 check-most t h = length-facts (length t) (check-done t h .0) .2

@@ -1,5 +1,6 @@
--- The numbers of refusals stand apart from those of what is accepted, and none is 21: each is above it. Each is below 64.
-use Prim.Native.Nat.{_<_}
+-- The numbers of refusals stand apart from those of what is accepted, and none is 21: each is above it. Each is below 64. Those of
+-- the reasons stand together.
+use Prim.Native.Nat.{_<_, _≤_}
 use native.Mathlib.Omega.{arith}
 use Rattle.rules.specs.declared.verdict.Reason.{Reason}
 use Rattle.rules.specs.declared.verdict.Reason.the-variants.{FlagOrLevel, DigitOrPointCode, NotZero, NotAbove, Repeated}
@@ -7,42 +8,28 @@ use Rattle.rules.specs.declared.outcome.Refusal.{Refusal}
 use Rattle.rules.specs.declared.outcome.Refusal.the-variants.{Malformed, BadRecord, NotAllowed, ByRoutine, AlreadyThere, MarkDiffers, HolderNotLower, NotThere, NoCircuitForRoutine, NoCircuit, NoCircuitToReserve}
 use Rattle.rules.specs.Numbers.{reasonNumber, refusalNumber}
 
-pub reason-high : (r : Reason) → 21 < reasonNumber r
-reason-high FlagOrLevel = omega arith
-reason-high DigitOrPointCode = omega arith
-reason-high NotZero = omega arith
-reason-high NotAbove = omega arith
-reason-high Repeated = omega arith
+pub reason-within : (r : Reason) → (41 ≤ reasonNumber r) × (reasonNumber r ≤ 45)
+reason-within FlagOrLevel = omega arith
+reason-within DigitOrPointCode = omega arith
+reason-within NotZero = omega arith
+reason-within NotAbove = omega arith
+reason-within Repeated = omega arith
 
-reason-below : (r : Reason) → reasonNumber r < 64
-reason-below FlagOrLevel = omega arith
-reason-below DigitOrPointCode = omega arith
-reason-below NotZero = omega arith
-reason-below NotAbove = omega arith
-reason-below Repeated = omega arith
+refusal-within : (r : Refusal) → (21 < refusalNumber r) × (refusalNumber r < 64)
+refusal-within Malformed = omega arith
+refusal-within (BadRecord r i) = let w = reason-within r in omega arith
+refusal-within NotAllowed = omega arith
+refusal-within ByRoutine = omega arith
+refusal-within AlreadyThere = omega arith
+refusal-within MarkDiffers = omega arith
+refusal-within HolderNotLower = omega arith
+refusal-within NotThere = omega arith
+refusal-within NoCircuitForRoutine = omega arith
+refusal-within NoCircuit = omega arith
+refusal-within NoCircuitToReserve = omega arith
 
 pub refusal-high : (r : Refusal) → 21 < refusalNumber r
-refusal-high Malformed = omega arith
-refusal-high (BadRecord r i) = reason-high r
-refusal-high NotAllowed = omega arith
-refusal-high ByRoutine = omega arith
-refusal-high AlreadyThere = omega arith
-refusal-high MarkDiffers = omega arith
-refusal-high HolderNotLower = omega arith
-refusal-high NotThere = omega arith
-refusal-high NoCircuitForRoutine = omega arith
-refusal-high NoCircuit = omega arith
-refusal-high NoCircuitToReserve = omega arith
+refusal-high r = refusal-within r .0
 
 pub refusal-below : (r : Refusal) → refusalNumber r < 64
-refusal-below Malformed = omega arith
-refusal-below (BadRecord r i) = reason-below r
-refusal-below NotAllowed = omega arith
-refusal-below ByRoutine = omega arith
-refusal-below AlreadyThere = omega arith
-refusal-below MarkDiffers = omega arith
-refusal-below HolderNotLower = omega arith
-refusal-below NotThere = omega arith
-refusal-below NoCircuitForRoutine = omega arith
-refusal-below NoCircuit = omega arith
-refusal-below NoCircuitToReserve = omega arith
+refusal-below r = refusal-within r .1
