@@ -1,23 +1,20 @@
 -- What is decided names a circuit that a search found, so one that is there; and over a valid table its record is in order.
 use Prim.Native.Nat.{ℕ}
-use mathlib.Core.Path.{_≡_, ap₂}
+use mathlib.Core.Path.{_≡_}
 use mathlib.Core.Bool.{Bool, true}
 use mathlib.Core.List.{List}
 use Rattle.rules.specs.declared.circuit.Circuit.{Circuit}
 use Rattle.rules.specs.declared.event.Event.{Event}
 use Rattle.rules.specs.declared.search.Found.{Found}
 use Rattle.rules.specs.declared.search.Found.the-variants.{At, Nothing}
-use Rattle.rules.specs.declared.verdict.Verdict.{Verdict}
-use Rattle.rules.specs.declared.outcome.Refusal.the-variants.{Malformed}
 use Rattle.rules.specs.declared.outcome.Outcome.{Outcome}
 use Rattle.rules.specs.declared.outcome.Outcome.the-variants.{Refuse, Do, Clock}
 use Rattle.rules.specs.Search.{firstTo}
 use Rattle.rules.specs.Circuit.{isOf}
 use Rattle.rules.specs.Choice.{reservedBy}
 use Rattle.rules.specs.Event.{wellFormed}
-use Rattle.rules.specs.Decision.{unless, decision}
-use Rattle.rules.specs.Valid.{verdict, valid}
-use Rattle.rules.specs.Run.{ifSound, outcomeOf}
+use Rattle.rules.specs.Decision.{decision}
+use Rattle.rules.specs.Valid.{valid}
 use Rattle.rules.specs.Records.{circuitAt, records, circuits}
 use Rattle.rules.specs.Ready.{Ready}
 use Rattle.rules.proofs.Faults.{Facts, valid-facts}
@@ -36,13 +33,6 @@ reserved-below n x r = go (firstTo f n) (first-is f n)
     go : (q : Found) → FirstIs f n q → Below n q
     go (At i) h = h .0
     go Nothing h = tt
-
--- a well-formed event over a table of which v is the verdict is decided by the rules, or refused by the fault
-module _ (t : List ℕ) (e : Event) (formed : wellFormed e ≡ true) {v : Verdict} (known : verdict records t ≡ v) where
-  pub by-fault : outcomeOf records t e ≡ ifSound v (decision (circuitAt t) (circuits t) e)
-  unfolding outcomeOf records
-  by-fault =
-      ap₂ (λ (b : Bool) (w : Verdict). unless b Malformed (ifSound w (decision (circuitAt t) (circuits t) e))) formed known
 
 pub ready : (t : List ℕ) → valid records t ≡ true → (e : Event) → wellFormed e ≡ true → Ready t (decision (circuitAt t) (circuits t) e)
 unfolding records
