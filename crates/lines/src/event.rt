@@ -99,10 +99,10 @@ fn bad_record(out: &mut [u8], at: usize, n: u16) -> usize
     ensures text { λ r. ⌜ Written (now (out .entry)) at (rule.badRecord n) (now (out .exit)) r ⌝ }
     ensures end { λ r. ⌜ r ≤ at + 21 ⌝ }
 {
-    if n == NO_DETAIL {
-        return at;
+    if n != NO_DETAIL {
+        return text::field(out, at, n as u64);
     }
-    text::field(out, at, n as u64)
+    at
 }
 
 // Writes the only line that there is where the check refuses the table.

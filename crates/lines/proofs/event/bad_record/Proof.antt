@@ -1,4 +1,4 @@
--- Nothing, or the record.
+-- The record, or nothing.
 use mathlib.Core.Path.{refl}
 use mathlib.Core.List.{[]}
 use native.Mathlib.Omega.{arith}
@@ -10,16 +10,16 @@ use borrow.Author.Needs.{needs}
 use Rattle.lines.proofs.event.bad_record.Statement.{statement}
 use Rattle.lines.proofs.event.bad_record.Tie as tie
 
-none : tie.Need-returns
+some : tie.Need-returns
+some c =
+    let taken = c .before .before .before .before in
+    let a = taken .before .before .args in
+    (said (if-ne [] (field (decimal (a .n))) (a .n) noDetail (taken .if1 .taken) refl) (c .before .before .field .ensures .0), c .before .before .field .ensures .1)
+
+none : tie.Need-returns-2
 none c =
     let a = c .before .before .args in
-    (said (if-eq [] (field (decimal (a .n))) (a .n) noDetail (c .if1 .taken) refl) (record { content = refl; end = omega arith }), omega arith)
-
-some : tie.Need-returns-2
-some c =
-    let left = c .before .before .before .before in
-    let a = left .before .before .args in
-    (said (if-ne [] (field (decimal (a .n))) (a .n) noDetail (left .if1 .left) refl) (c .before .before .field .ensures .0), c .before .before .field .ensures .1)
+    (said (if-eq [] (field (decimal (a .n))) (a .n) noDetail (c .if1 .left) refl) (record { content = refl; end = omega arith }), omega arith)
 
 pub bad-record-spec : {M : Type 1} → statement M
-bad-record-spec = tie.close (tie.spec none (λ c κs. search needs) (λ c. search needs) some)
+bad-record-spec = tie.close (tie.spec (λ c κs. search needs) (λ c. search needs) some none)
