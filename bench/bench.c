@@ -79,6 +79,20 @@ static void bench_check(const char *what, const uint8_t *table, size_t circuits)
     must_be_equal(what, &checks[0].record, &checks[1].record, sizeof checks[0].record);
 }
 
+/* Valid tables with other references each time. Only the library is counted: the cost of plain C hangs on no reference. */
+static void bench_draws(const char *what, size_t circuits)
+{
+    enum { DRAWS = 200 };
+    static uint8_t table[NAUSTVRI_CIRCUITS_MOST * NAUSTVRI_CIRCUIT_SIZE];
+    for (unsigned draw = 0; draw < DRAWS; draw++) {
+        struct naustvri_check_reading check;
+        make_all_parts_drawn(table, circuits, draw);
+        COUNT(check = naustvri_check(table, circuits * NAUSTVRI_CIRCUIT_SIZE));
+        counted(what, circuits, sides, 1);
+        must_be_equal(what, &check.number, &(uint8_t){NAUSTVRI_DONE}, sizeof check.number);
+    }
+}
+
 static void bench_lamps(const char *what, const uint8_t *table, size_t circuits)
 {
     struct naustvri_lamps_reading lamps[SIDES];
@@ -306,6 +320,8 @@ int main(void)
             }
         }
     }
+    for (size_t i = 0; i < sizeof sizes / sizeof *sizes; i++)
+        bench_draws("check, references drawn at random", sizes[i]);
     make_mixed(&mixed, NAUSTVRI_CIRCUITS_MOST);
     bench_fields(&mixed);
     write_stacks();

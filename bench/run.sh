@@ -29,5 +29,17 @@ for version in 1 2 3 4 5; do
 done
 [ -s "$out/marks" ] || die "qemu counted nothing: $(cat "$out/counter.log")"
 cmp "$out/rows" "$out/rows.counted"
+
+# The stack over every path is read from the object code.
+frames() {
+    side=$1
+    shift
+    for file; do
+        "${xbin}objdump" -r "$file"
+        "${xbin}objdump" -dr --no-show-raw-insn "$file"
+    done | awk -v side="$side" -f "$bench/frames.awk" >>"$out/rows"
+}
+frames library "$@"
+frames plain "$out/plain.o"
 awk -f "$bench/counts.awk" -f "$bench/table.awk" "$out/marks" "$out/rows"
 awk -f "$bench/counts.awk" -f "$bench/drawing.awk" "$out/marks" "$out/rows" >"$drawing"

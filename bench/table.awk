@@ -1,6 +1,6 @@
 # table.awk, after counts.awk: prints the tables, in Markdown.
 BEGIN {
-    budget["check, every part present"] = "2,600 / 10,000 / 55,000"
+    for (i = 1; i <= sizes; i++) budget["check, every part present"] = budget["check, every part present"] (i > 1 ? " / " : "") thousands(check_budget[size[i]])
     budget["one event alone, mixed"] = "2,200 / 8,000 / 35,000"
     budget["mixed list, an event"] = "500 / 1,600 / 6,100"
 }
@@ -26,7 +26,7 @@ END {
     print "|---|---|---|---|---|---|---|"
     for (k = 1; k <= kinds; k++) {
         what = order[k]
-        if (sized[what])
+        if (sized[what] && what != at_random)
             print "| " what " | " at_sizes(what, "library") " | " at_sizes(what, "plain") " | " ratios(what) " | " budget[what] \
                 " | " growth(what, "library") " | " growth(what, "plain") " |"
     }
@@ -40,9 +40,19 @@ END {
                 cost(what, 0, "library") / cost(what, 0, "plain")
     }
     print ""
-    print "| stack of one call, octets | library | plain C |"
-    print "|---|---|---|"
-    for (k = 1; k <= stacks; k++) print "| " stack_order[k] " | " stack[stack_order[k], "library"] " | " stack[stack_order[k], "plain"] " |"
+    print "| " at_random " | least | mean | most | draws over the budget |"
+    print "|---|---|---|---|---|"
+    for (i = 1; i <= sizes; i++)
+        print "| " size[i] " circuits | " thousands(least[size[i]]) " | " thousands(cost(at_random, size[i], "library")) " | " thousands(most[size[i]]) " | " \
+            over[size[i]] + 0 " of " draws[size[i]] " |"
+    print ""
+    print "| stack of one call, octets | library, every path | library, painted | plain C, every path | plain C, painted |"
+    print "|---|---|---|---|---|"
+    for (k = 1; k <= stacks; k++) {
+        what = stack_order[k]
+        print "| " what " | " stack["frames", what, "library"] " | " stack["stack", what, "library"] " | " stack["frames", what, "plain"] " | " \
+            stack["stack", what, "plain"] " |"
+    }
     print ""
     print "| list at 256 circuits | answers: how many × which number |"
     print "|---|---|"

@@ -212,6 +212,22 @@ void make_all_parts(uint8_t *table, size_t circuits)
     }
 }
 
+/* Part i of a table, its holder's or its reservation's. */
+static uint8_t *part_of(uint8_t *table, size_t i)
+{
+    return table + i / 2 * NAUSTVRI_CIRCUIT_SIZE + (i % 2 ? NAUSTVRI_CIRCUIT_RESERVED : NAUSTVRI_CIRCUIT_HELD);
+}
+
+void make_all_parts_drawn(uint8_t *table, size_t circuits, unsigned draw)
+{
+    state = 2685821657736338717ull * (draw + 1);
+    make_all_parts(table, circuits);
+    for (size_t i = 0; i < 2 * circuits; i++) {
+        struct naustvri_reference reference = {.identity = below(1 << 24), .point = (uint16_t)below(1 << 14)};
+        plain_write_reference(part_of(table, i) + 7, NAUSTVRI_REFERENCE_SIZE, reference);
+    }
+}
+
 void make_all_parts_alike(uint8_t *table, size_t circuits)
 {
     /* crates/references: a reference whose fifth octet is 0 is noted by its number times 1540483477; bits 20 to 37 of the product are its
@@ -220,12 +236,11 @@ void make_all_parts_alike(uint8_t *table, size_t circuits)
     uint64_t product = (uint64_t)12345 << 20;
     make_all_parts(table, circuits);
     for (size_t i = 0; i < 2 * circuits; i++) {
-        uint8_t *part = table + i / 2 * NAUSTVRI_CIRCUIT_SIZE + (i % 2 ? NAUSTVRI_CIRCUIT_RESERVED : NAUSTVRI_CIRCUIT_HELD);
         uint64_t v;
         do {
             v = product++ * back & lowest;
         } while (v >> 32);
         struct naustvri_reference reference = {.identity = (uint32_t)(v & 0xffffff), .point = (uint16_t)(v >> 24)};
-        plain_write_reference(part + 7, NAUSTVRI_REFERENCE_SIZE, reference);
+        plain_write_reference(part_of(table, i) + 7, NAUSTVRI_REFERENCE_SIZE, reference);
     }
 }

@@ -24,6 +24,9 @@ void make_full_table(struct workload *w, size_t circuits);
 /* A table whose every circuit has a holder and a reservation, so that the most references stand in it. */
 void make_all_parts(uint8_t *table, size_t circuits);
 
+/* The same with references drawn at random, others for each draw. */
+void make_all_parts_drawn(uint8_t *table, size_t circuits, unsigned draw);
+
 /* The same with references that were made against the library's filter of references, so that it tells none of them apart. */
 void make_all_parts_alike(uint8_t *table, size_t circuits);
 
