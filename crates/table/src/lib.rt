@@ -1,9 +1,12 @@
 // Circuits in the octets of a table: read, stored, and whether they are zero. No other code but the program `vectors` knows where a
 // circuit's fields stand.
+use rules::age::Age;
 use rules::circuit::Circuit;
 use rules::level::Level;
 use rules::mark::Mark;
 use rules::part::Part;
+use rules::part::Reference;
+use rules::standing::Standing;
 ghost use mathlib.Core.Path.{_≡_};
 ghost use mathlib.Core.Bool.{true, cond};
 ghost use Prim.Native.Nat.{_+_, _*_, _/_, _<_, _≤_};
@@ -11,6 +14,8 @@ ghost use lib.ListN.{length};
 ghost use mathlib.Core.List.{_++_};
 ghost use Rattle.octets.specs.Number.{octets};
 ghost use Rattle.octets.specs.Span.{put, zeros};
+ghost use Rattle.rules.specs.Circuit.{isOf, free, standing, overdue};
+ghost use Rattle.rules.specs.Standing.{standingOf};
 ghost use Rattle.rules.specs.Valid.{partNumbered};
 ghost use Rattle.rules.specs.Records.{circuitSize, circuits, partAt, circuitAt, holderOctets, reservationOctets, spareOctets, partOctets, putCircuit, flagsAt, blankAt, tableLength};
 
@@ -22,6 +27,9 @@ pub const MOST_CIRCUITS: usize = 256;
 
 // A part has 12 octets, a reservation's clock aside.
 const PART_SIZE: usize = 12;
+
+// This says from which octet of a part on its call reference stands.
+const REFERENCE: usize = 7;
 
 // These say from which octet of a circuit on the reservation's part stands, then its clock, then the octets that belong to no part.
 const RESERVATION: usize = 12;
@@ -51,29 +59,29 @@ pub fn count(t: &[u8]) -> usize
     t.len() / CIRCUIT_SIZE
 }
 
+// Reads the mark of the part that stands from octet `o` on.
+fn mark_at(t: &[u8], o: usize) -> Mark
+    requires { ⌜ o + 12 ≤ length (now t) ⌝ }
+    ensures { λ r. ⌜ r ≡ partAt (now (t .entry)) o .mark ⌝ }
+{
+    let level = Level::in_record(t[o + 1]);
+    let domain = octets::read_five(t, o + 2);
+    Mark { level, domain }
+}
+
 // Reads the part that stands from octet `o` on.
 fn part_at(t: &[u8], o: usize) -> Part
     requires { ⌜ o + 12 ≤ length (now t) ⌝ }
     ensures { λ r. ⌜ r ≡ partAt (now (t .entry)) o ⌝ }
 {
     let present = t[o] == 1;
-    let level = Level::in_record(t[o + 1]);
-    let domain = octets::read_five(t, o + 2);
-    let reference = octets::read_five(t, o + 7);
-    let mark = Mark { level, domain };
+    let mark = mark_at(t, o);
+    let reference = octets::read_five(t, o + REFERENCE);
     Part {
         present,
         mark,
         reference,
     }
-}
-
-// Reads part k: 2 i is the holder's of circuit i, and 2 i + 1 its reservation's.
-pub fn part_numbered(t: &[u8], k: usize) -> Part
-    requires { ⌜ k < 2 * circuits (now t) ⌝ }
-    ensures { λ r. ⌜ r ≡ partNumbered (circuitAt (now (t .entry))) k ⌝ }
-{
-    part_at(t, CIRCUIT_SIZE * (k / 2) + RESERVATION * (k % 2))
 }
 
 // Reads the holder's part of circuit i.
@@ -90,6 +98,122 @@ pub fn reservation_at(t: &[u8], i: usize) -> Part
     ensures { λ r. ⌜ r ≡ circuitAt (now (t .entry)) i .reservation ⌝ }
 {
     part_at(t, CIRCUIT_SIZE * i + RESERVATION)
+}
+
+// Tells whether circuit i is held.
+pub fn held_at(t: &[u8], i: usize) -> bool
+    requires { ⌜ i < circuits (now t) ⌝ }
+    ensures { λ r. ⌜ r ≡ circuitAt (now (t .entry)) i .holder .present ⌝ }
+{
+    t[CIRCUIT_SIZE * i] == 1
+}
+
+// Tells whether circuit i is reserved.
+pub fn reserved_at(t: &[u8], i: usize) -> bool
+    requires { ⌜ i < circuits (now t) ⌝ }
+    ensures { λ r. ⌜ r ≡ circuitAt (now (t .entry)) i .reservation .present ⌝ }
+{
+    t[CIRCUIT_SIZE * i + RESERVATION] == 1
+}
+
+// Tells whether circuit i is free, by its two flags.
+pub fn free_at(t: &[u8], i: usize) -> bool
+    requires { ⌜ i < circuits (now t) ⌝ }
+    ensures { λ r. ⌜ r ≡ free (circuitAt (now (t .entry)) i) ⌝ }
+{
+    Standing::free(held_at(t, i), reserved_at(t, i))
+}
+
+// Gives the octet from which on the part of circuit i stands whose mark is the standing one: the reservation's if there is one, else the
+// holder's.
+fn standing_part(t: &[u8], i: usize) -> usize
+    requires { ⌜ i < circuits (now t) ⌝ }
+    ensures within { λ r. ⌜ r + 12 ≤ length (now (t .entry)) ⌝ }
+    ensures mark { λ r. ⌜ partAt (now (t .entry)) r .mark ≡ standing (circuitAt (now (t .entry)) i) ⌝ }
+{
+    if reserved_at(t, i) {
+        CIRCUIT_SIZE * i + RESERVATION
+    } else {
+        CIRCUIT_SIZE * i
+    }
+}
+
+// Reads the level of the standing mark of circuit i.
+pub fn level_at(t: &[u8], i: usize) -> Level
+    requires { ⌜ i < circuits (now t) ⌝ }
+    ensures { λ r. ⌜ r ≡ standing (circuitAt (now (t .entry)) i) .level ⌝ }
+{
+    let o = standing_part(t, i);
+    Level::in_record(t[o + 1])
+}
+
+// Reads the standing of circuit i: its two flags, and of its two marks the one that stands.
+pub fn standing_at(t: &[u8], i: usize) -> Standing
+    requires { ⌜ i < circuits (now t) ⌝ }
+    ensures { λ r. ⌜ r ≡ standingOf (circuitAt (now (t .entry)) i) ⌝ }
+{
+    let held = held_at(t, i);
+    let reserved = reserved_at(t, i);
+    let mark = mark_at(t, standing_part(t, i));
+    Standing {
+        held,
+        reserved,
+        mark,
+    }
+}
+
+// Tells whether circuit i has a reservation that is overdue, by its flag and its clock.
+pub fn overdue_at(t: &[u8], i: usize, clock: u32) -> bool
+    requires { ⌜ i < circuits (now t) ⌝ }
+    ensures { λ r. ⌜ r ≡ overdue clock (circuitAt (now (t .entry)) i) ⌝ }
+{
+    if reserved_at(t, i) {
+        let stored = octets::read_four(t, CIRCUIT_SIZE * i + CLOCK);
+        Age::between(clock, stored).over()
+    } else {
+        false
+    }
+}
+
+// Tells whether the part of circuit i on a side is present: side 0 is the holder's, and side 1 the reservation's.
+pub fn present_on(t: &[u8], i: usize, side: usize) -> bool
+    requires { ⌜ i < circuits (now t) ⌝ }
+    requires { ⌜ side < 2 ⌝ }
+    ensures { λ r. ⌜ r ≡ partNumbered (circuitAt (now (t .entry))) (2 * i + side) .present ⌝ }
+{
+    t[CIRCUIT_SIZE * i + RESERVATION * side] == 1
+}
+
+// Reads the call reference in the part of circuit i on a side.
+pub fn reference_on(t: &[u8], i: usize, side: usize) -> Reference
+    requires { ⌜ i < circuits (now t) ⌝ }
+    requires { ⌜ side < 2 ⌝ }
+    ensures { λ r. ⌜ r ≡ partNumbered (circuitAt (now (t .entry))) (2 * i + side) .reference ⌝ }
+{
+    octets::read_five(t, CIRCUIT_SIZE * i + RESERVATION * side + REFERENCE)
+}
+
+// Tells whether the call with this reference stands in the part of circuit i on a side. The reference seldom does, so it is compared before
+// the flag.
+pub fn stands_in(t: &[u8], i: usize, side: usize, reference: Reference) -> bool
+    requires { ⌜ i < circuits (now t) ⌝ }
+    requires { ⌜ side < 2 ⌝ }
+    ensures { λ r. ⌜ r ≡ isOf reference (partNumbered (circuitAt (now (t .entry))) (2 * i + side)) ⌝ }
+{
+    let here = reference_on(t, i, side);
+    if octets::same_five(here, reference) {
+        present_on(t, i, side)
+    } else {
+        false
+    }
+}
+
+// Reads part k: 2 i is the holder's of circuit i, and 2 i + 1 its reservation's.
+pub fn part_numbered(t: &[u8], k: usize) -> Part
+    requires { ⌜ k < 2 * circuits (now t) ⌝ }
+    ensures { λ r. ⌜ r ≡ partNumbered (circuitAt (now (t .entry))) k ⌝ }
+{
+    part_at(t, CIRCUIT_SIZE * (k / 2) + RESERVATION * (k % 2))
 }
 
 // Reads what stands at circuit i.

@@ -1,4 +1,4 @@
--- The flag, the level, the domain, the reference.
+-- The flag, the mark, the reference.
 use lib.ListN.{getD}
 use lib.Dec.{eqb}
 use denote.Ref.{now}
@@ -11,11 +11,7 @@ part-at-spec =
     tie.close
     (tie.spec
     (λ c. search needs)
-    (λ c. search needs)
-    (λ c. search needs)
     (λ c κs. search needs)
     (λ c. search needs)
     (λ c κs. search needs)
-    (λ c. search needs)
-    (λ c κs. search needs)
-    (λ c. let a = c .before .before .before .before .before .before .args in λ i. record { present = eqb (getD (now (a .t)) (a .o) 0) 1; mark = record { level = record { 0 = c .before .before .in-record .ensures i }; domain = c .before .read-five .ensures i }; reference = c .read-five2 .ensures i }))
+    (λ c. let a = c .before .before .before .before .args in λ i. record { present = eqb (getD (now (a .t)) (a .o) 0) 1; mark = c .before .mark-at .ensures i; reference = c .read-five .ensures i }))
