@@ -14,11 +14,12 @@ fit p = levelOk (p .mark .level .0) && (decimal (p .mark .domain) && pointCodeOk
 abbrev pub partInOrder : Part → List ℕ → Bool  -- a part is present and fit, or its octets are zero
 partInOrder p octets = cond (p .present) (fit p) (zeros octets)
 
-unfoldable pub inOrder : List ℕ → ℕ → Bool  -- in record i both parts are in order, other octets zero, and a reservation outranks its holder
+-- in record i the holder's part is in order, other octets are zero, and the reservation's part is zero, or fit and above its holder
+unfoldable pub inOrder : List ℕ → ℕ → Bool
 inOrder t i =
     partInOrder (circuitAt t i .holder) (holderOctets t i)
-    && (partInOrder (circuitAt t i .reservation) (reservationOctets t i)
-    && (zeros (spareOctets t i) && pairOk (circuitAt t i)))
+    && (zeros (spareOctets t i)
+    && cond (circuitAt t i .reservation .present) (fit (circuitAt t i .reservation) && pairOk (circuitAt t i)) (zeros (reservationOctets t i)))
 
 abbrev pub outOfOrder : List ℕ → ℕ → Bool  -- record i is not in order
 outOfOrder t i = not (inOrder t i)

@@ -11,16 +11,15 @@ use rules::verdict::Reason;
 use rules::verdict::Verdict;
 ghost use mathlib.Core.Path.{_≡_};
 ghost use mathlib.Core.Bool.{_&&_};
-ghost use Prim.Native.Nat.{_+_, _/_, _<_, _≤_};
-ghost use lib.ListN.{length};
+ghost use Prim.Native.Nat.{_+_, _*_, _^_, _<_};
 ghost use Rattle.rules.specs.Fields.{levelOk, decimal, pointCodeOk};
-ghost use Rattle.rules.specs.Valid.{ifPresent, levelsOk, fieldsOk, pairOk, isValid, checkOf, recordVerdict, recordsTo, partsTo};
+ghost use Rattle.rules.specs.Valid.{ifPresent, levelsOk, fieldsOk, pairOk, recordVerdict, recordsTo, partsTo};
 ghost use Rattle.rules.specs.Search.{firstTo};
-ghost use Rattle.rules.specs.Answer.{noDetail};
 ghost use Rattle.rules.specs.Valid as rule;
-ghost use Rattle.rules.specs.Records.{circuitAt, circuits, flagsAt, records, checked, holderOctets, reservationOctets};
+ghost use Rattle.rules.specs.Records.{circuitAt, circuits, flagsAt, records, checked, holderOctets};
 ghost use Rattle.validity.specs.Order.{partInOrder, inOrder, outOfOrder};
 ghost use Rattle.validity.specs.Order as order;
+ghost use Rattle.validity.specs.Code.{reasonDigit, digitOf, codeOf, reasonOf, checkCoded};
 
 // Tells whether a part is absent, or its level is one of the five.
 fn level_ok(p: Part) -> bool
@@ -102,25 +101,32 @@ fn flags_and_levels(t: &[u8], i: usize, c: Circuit) -> bool
     }
 }
 
-// Gives the verdict on record i by itself: a fault by the first reason that applies.
-fn record(t: &[u8], i: usize) -> Verdict
+// Gives the last digit of a reason's number.
+fn digit(reason: Reason) -> u64
+    ensures { λ r. ⌜ r ≡ reasonDigit reason ⌝ }
+{
+    (reason.number() - 40) as u64
+}
+
+// Gives the last digit of the number of the first reason that applies to record i by itself, or 0 where none does.
+fn record(t: &[u8], i: usize) -> u64
     requires { ⌜ i < circuits (now t) ⌝ }
-    ensures { λ r. ⌜ r ≡ recordVerdict records (now (t .entry)) i ⌝ }
+    ensures { λ r. ⌜ r ≡ digitOf (recordVerdict records (now (t .entry)) i) ⌝ }
 {
     let c = table::circuit_at(t, i);
     if !flags_and_levels(t, i, c) {
-        return Verdict::Fault(Reason::FlagOrLevel, i);
+        return digit(Reason::FlagOrLevel);
     }
     if !fields_ok(c) {
-        return Verdict::Fault(Reason::DigitOrPointCode, i);
+        return digit(Reason::DigitOrPointCode);
     }
     if !table::blank(t, i) {
-        return Verdict::Fault(Reason::NotZero, i);
+        return digit(Reason::NotZero);
     }
     if !pair_ok(c) {
-        return Verdict::Fault(Reason::NotAbove, i);
+        return digit(Reason::NotAbove);
     }
-    Verdict::Valid
+    0
 }
 
 // Tells whether a part that is present is fit by itself: its level, its digits and its spare bits are right.
@@ -151,20 +157,7 @@ fn holder_in_order(t: &[u8], i: usize) -> bool
     }
 }
 
-// Tells whether the reservation's part of record i is present and fit, or zero.
-fn reservation_in_order(t: &[u8], i: usize) -> bool
-    requires { ⌜ i < circuits (now t) ⌝ }
-    ensures { λ r. ⌜ r ≡ partInOrder (circuitAt (now (t .entry)) i .reservation) (reservationOctets (now (t .entry)) i) ⌝ }
-{
-    let p = table::reservation_at(t, i);
-    if p.present {
-        fit(p)
-    } else {
-        table::reservation_zero(t, i)
-    }
-}
-
-// Tells whether record i is in order: no reason applies to it.
+// Tells whether record i is in order: no reason applies to it. Only where there is a reservation are the two parts held against each other.
 fn in_order(t: &[u8], i: usize) -> bool
     requires { ⌜ i < circuits (now t) ⌝ }
     ensures { λ r. ⌜ r ≡ inOrder (now (t .entry)) i ⌝ }
@@ -172,23 +165,16 @@ fn in_order(t: &[u8], i: usize) -> bool
     if !holder_in_order(t, i) {
         return false;
     }
-    if !reservation_in_order(t, i) {
-        return false;
-    }
     if !table::spare_zero(t, i) {
         return false;
     }
-    pair_ok(table::circuit_at(t, i))
-}
-
-// Tells whether a verdict is no fault.
-fn is_valid(v: Verdict) -> bool
-    ensures { λ r. ⌜ r ≡ isValid v ⌝ }
-{
-    match v {
-        Verdict::Valid => true,
-        Verdict::Fault(_, _) => false,
+    if !table::reserved_at(t, i) {
+        return table::reservation_zero(t, i);
     }
+    if !fit(table::reservation_at(t, i)) {
+        return false;
+    }
+    pair_ok(table::circuit_at(t, i))
 }
 
 // Finds the lowest record that is not in order.
@@ -206,23 +192,56 @@ fn first_out_of_order(t: &[u8]) -> Found
     Found::Nothing
 }
 
-// Gives the verdict on the records, each by itself: it is that on the lowest that is not in order.
-fn each_record(t: &[u8]) -> Verdict
-    ensures { λ r. ⌜ r ≡ recordsTo records (now (t .entry)) (circuits (now (t .entry))) ⌝ }
+// Gives the code of a fault: 8 times its record and the last digit of its reason's number. A valid table has the code 0. Inside this crate a
+// verdict goes by its code, since the compiler gives an enum back through memory, which costs every caller's stack.
+fn code(digit: u64, i: usize) -> u64
+    requires { ⌜ 8 * i + digit < 2 ^ 64 ⌝ }
+    ensures { λ r. ⌜ r ≡ 8 * i + digit ⌝ }
+{
+    8 * i as u64 + digit
+}
+
+// Gives the code of the verdict on the records, each by itself: it is that on the lowest that is not in order.
+fn each_record(t: &[u8]) -> u64
+    ensures { λ r. ⌜ r ≡ codeOf (recordsTo records (now (t .entry)) (circuits (now (t .entry)))) ⌝ }
 {
     match first_out_of_order(t) {
-        Found::At(i) => record(t, i),
-        Found::Nothing => Verdict::Valid,
+        Found::At(i) => code(record(t, i), i),
+        Found::Nothing => 0,
     }
 }
 
-// Gives the verdict on the references: the first that stands in an earlier part is a fault.
-fn each_reference(t: &[u8]) -> Verdict
-    ensures { λ r. ⌜ r ≡ partsTo records (now (t .entry)) (circuits (now (t .entry))) ⌝ }
+// Gives the code of the verdict on the references: the first that stands in an earlier part is a fault.
+fn each_reference(t: &[u8]) -> u64
+    ensures { λ r. ⌜ r ≡ codeOf (partsTo records (now (t .entry)) (circuits (now (t .entry)))) ⌝ }
 {
     match references::first_repeated(t) {
-        Found::At(k) => Verdict::Fault(Reason::Repeated, k / 2),
-        Found::Nothing => Verdict::Valid,
+        Found::At(k) => code(digit(Reason::Repeated), k / 2),
+        Found::Nothing => 0,
+    }
+}
+
+// Finds the first fault of the table, by its code: first in a record by itself, then in the references.
+fn fault(t: &[u8]) -> u64
+    ensures { λ r. ⌜ r ≡ codeOf (rule.verdict records (now (t .entry))) ⌝ }
+{
+    let found = each_record(t);
+    if found != 0 {
+        return found;
+    }
+    each_reference(t)
+}
+
+// Gives the reason whose number has this last digit.
+fn reason(digit: u64) -> Reason
+    ensures { λ r. ⌜ r ≡ reasonOf digit ⌝ }
+{
+    match digit {
+        1 => Reason::FlagOrLevel,
+        2 => Reason::DigitOrPointCode,
+        3 => Reason::NotZero,
+        4 => Reason::NotAbove,
+        _ => Reason::Repeated,
     }
 }
 
@@ -230,24 +249,28 @@ fn each_reference(t: &[u8]) -> Verdict
 pub fn verdict(t: &[u8]) -> Verdict
     ensures { λ r. ⌜ r ≡ rule.verdict records (now (t .entry)) ⌝ }
 {
-    let v = each_record(t);
-    if is_valid(v) { each_reference(t) } else { v }
+    let code = fault(t);
+    if code == 0 {
+        Verdict::Valid
+    } else {
+        Verdict::Fault(reason(code % 8), (code / 8) as usize)
+    }
 }
 
-// Gives what the check returns for a verdict on a table of right length.
-fn check_of(v: Verdict) -> Check
-    requires { ⌜ checkOf v .detail ≤ noDetail ⌝ }
-    ensures { λ r. ⌜ r ≡ checkOf v ⌝ }
+// Gives what the check returns for the code of a verdict on a table of right length.
+fn check_of(code: u64) -> Check
+    requires { ⌜ code < 8 * 65536 ⌝ }
+    ensures { λ r. ⌜ r ≡ checkCoded code ⌝ }
 {
-    match v {
-        Verdict::Valid => Check {
+    if code == 0 {
+        return Check {
             number: number::DONE,
             detail: NO_DETAIL,
-        },
-        Verdict::Fault(r, i) => Check {
-            number: r.number(),
-            detail: i as u16,
-        },
+        };
+    }
+    Check {
+        number: 40 + (code % 8) as u8,
+        detail: (code / 8) as u16,
     }
 }
 
@@ -261,5 +284,5 @@ pub fn check(t: &[u8]) -> Check
             detail: NO_DETAIL,
         };
     }
-    check_of(verdict(t))
+    check_of(fault(t))
 }

@@ -1,9 +1,13 @@
 -- One test after the other.
-use mathlib.Core.Path.{ap, _∙_}
+use mathlib.Core.Path.{_≡_, refl, ap, _∙_}
+use mathlib.Core.Bool.{Bool, _&&_}
+use denote.Ref.{now}
 use borrow.Author.Needs.{needs}
-use Rattle.octets.proofs.Tests.{both}
+use borrow.Author.Tests.{not-true, not-false}
+use Rattle.octets.proofs.Tests.{both, and-on, and-off, if-true, if-false}
 use Rattle.rules.specs.Valid.{pairOk}
-use Rattle.validity.specs.Order.{inOrder}
+use Rattle.rules.specs.Records.{circuitAt}
+use Rattle.validity.specs.Order.{fit, inOrder}
 use Rattle.validity.proofs.in_order.Statement.{statement}
 use Rattle.validity.proofs.in_order.Tie as tie
 
@@ -17,11 +21,29 @@ returns-2 c = search both depth 8
 
 returns-3 : tie.Need-returns-3
 unfolding inOrder
-returns-3 c = search both depth 8
+returns-3 c = search (both, if-false) depth 8
+
+-- of a reservation that is there it is asked that it is fit, and above its holder
+reserved : {z : Bool} (c : tie.After-fit) → let a = c .before .before .before .before .before .before .before .before .before .args in let x = circuitAt (now (a .t)) (a .i) in z ≡ fit (x .reservation) && pairOk x → z ≡ inOrder (now (a .t)) (a .i)
+unfolding inOrder
+reserved c last =
+    let three = c .before .before .before in
+    let five = three .before .before in
+    and-on _ _ (five .before .before .holder-in-order .ensures) (not-false _ (five .before .if1 .left))
+    (and-on _ _ (five .spare-zero .ensures) (not-false _ (three .before .if2 .left))
+    (if-true _ _ _ (three .reserved-at .ensures) (not-false _ (c .before .before .if3 .left)) last))
 
 returns-4 : tie.Need-returns-4
-unfolding inOrder
-returns-4 c = let p = c .pair-ok .ensures ∙ ap pairOk (c .before .circuit-at .ensures) in search both depth 10
+returns-4 c =
+    reserved (c .before)
+    (and-off _ _ (c .before .fit .ensures ∙ ap fit (c .before .before .reservation-at .ensures)) (not-true _ (c .if4 .taken)) refl)
+
+returns-5 : tie.Need-returns-5
+returns-5 c =
+    let three = c .before .before .before in
+    reserved three
+    (and-on _ _ (three .fit .ensures ∙ ap fit (three .before .reservation-at .ensures)) (not-false _ (c .before .before .if4 .left))
+    (c .pair-ok .ensures ∙ ap pairOk (c .before .circuit-at .ensures)))
 
 pub in-order-spec : {M : Type 1} → statement M
 in-order-spec =
@@ -32,7 +54,11 @@ in-order-spec =
     (λ c κs. search needs)
     returns-2
     (λ c κs. search needs)
+    (λ c κs. search needs)
     returns-3
     (λ c κs. search needs)
     (λ c κs. search needs)
-    returns-4)
+    returns-4
+    (λ c κs. search needs)
+    (λ c κs. search needs)
+    returns-5)
