@@ -230,17 +230,20 @@ void make_all_parts_drawn(uint8_t *table, size_t circuits, unsigned draw)
 
 void make_all_parts_alike(uint8_t *table, size_t circuits)
 {
-    /* crates/references: a reference whose fifth octet is 0 is noted by its number times 1540483477; bits 20 to 37 of the product are its
-     * word and its bits. The products here are alike in these; `back` undoes the multiplication in the lowest 38 bits. */
-    const uint64_t back = 81161558461, lowest = ((uint64_t)1 << 38) - 1;
-    uint64_t product = (uint64_t)12345 << 20;
+    /* crates/references: the stem of a reference is its first four octets times 1540483477, modulo 2^32; it is noted by its stem times 695872825
+     * and its last octet times 739982445, added; bits 14 to 36 of that are its bits and its word. The sums here are alike in these, and `back`
+     * and `stem_back` undo the multiplications. */
+    const uint64_t back = 34576838921, lowest = ((uint64_t)1 << 37) - 1, alike = (uint64_t)12345 << 14;
+    const uint32_t stem_back = 3852147133;
     make_all_parts(table, circuits);
-    for (size_t i = 0; i < 2 * circuits; i++) {
-        uint64_t v;
-        do {
-            v = product++ * back & lowest;
-        } while (v >> 32);
-        struct naustvri_reference reference = {.identity = (uint32_t)(v & 0xffffff), .point = (uint16_t)(v >> 24)};
-        plain_write_reference(part_of(table, i) + 7, NAUSTVRI_REFERENCE_SIZE, reference);
-    }
+    size_t i = 0;
+    for (uint64_t last = 0; i < 2 * circuits; last++)
+        for (uint64_t rest = 0; rest < 1 << 14 && i < 2 * circuits; rest++) {
+            uint64_t stem = (alike + rest - 739982445 * last) * back & lowest;
+            if (stem >> 32)
+                continue;
+            uint32_t four = (uint32_t)stem * stem_back;
+            struct naustvri_reference reference = {.identity = four & 0xffffff, .point = (uint16_t)(four >> 24 | last << 8)};
+            plain_write_reference(part_of(table, i++) + 7, NAUSTVRI_REFERENCE_SIZE, reference);
+        }
 }

@@ -12,7 +12,7 @@ use lib.Seq.{getD-set-same, getD-set-other}
 use lib.Bits.{bitOr, or-shr, or-mod, or-comm, or-self}
 use borrow.Author.Tests.{eqb-true, eq-eqb}
 use Rattle.octets.specs.Same.{same}
-use Rattle.octets.proofs.Tests.{and-left, and-right, and-both, by-eq, not-so}
+use Rattle.octets.proofs.Tests.{and-left, and-right, by-eq, by-so, not-so, second-off}
 use Rattle.octets.proofs.Sames.{same-true}
 use Rattle.octets.proofs.Spans.{grow}
 use Rattle.rules.specs.declared.part.Part.{Part}
@@ -23,7 +23,7 @@ use Rattle.rules.specs.Circuit.{isOf}
 use Rattle.rules.specs.Search.{orElse, firstTo, found}
 use Rattle.rules.specs.Valid.{partNumbered, clash, repeated}
 use Rattle.rules.proofs.Searches.{or-nothing, first-cong, nothing-found, some-found}
-use Rattle.references.specs.Filter.{spread, wordOf, bitsIn, wordFor, already, standsTo, Grown, Seen}
+use Rattle.references.specs.Filter.{spread, wordOf, bitsIn, wordFor, already, inRange, standsTo, repeatedIn, Grown, Seen}
 
 -- ---- bits in words
 or-bits : (x y z : ℕ) → x < 2 → y < 2 → z < 2 → bitOr (bitOr x y) z ≡ bitOr x (bitOr y z)
@@ -104,46 +104,79 @@ module _ (x : ℕ → Circuit) (r : List ℕ) where
   unfolding standsTo
   stands-at n k l h = some-found (λ i. isOf r (partNumbered x i)) n k l h
 
-  -- it does not stand in part n
-  pub stands-past : (n : ℕ) → isOf r (partNumbered x n) ≡ false → standsTo x r n ≡ standsTo x r (n + 1)
+  -- one part more: it stands there if it did before, and else if it stands in that part
+  one-more : (f : Found) (b : Bool) (n : ℕ) → found (orElse f (cond b (At n) Nothing)) (λ i. true) false ≡ found f (λ i. true) false || b
+  one-more (At i) b n = refl
+  one-more Nothing true n = refl
+  one-more Nothing false n = refl
+
+  pub stands-more : (n : ℕ) → standsTo x r (n + 1) ≡ standsTo x r n || isOf r (partNumbered x n)
   unfolding standsTo
-  stands-past n h =
-      sym
-      (ap (λ (m : ℕ). found (firstTo (λ i. isOf r (partNumbered x i)) m) (λ i. true) false) (add-one n)
-      ∙ ap (λ (b : Bool). found (orElse (firstTo (λ i. isOf r (partNumbered x i)) n) (cond b (At n) Nothing)) (λ i. true) false) h
-      ∙ ap (λ (f : Found). found f (λ i. true) false) (or-nothing (firstTo (λ i. isOf r (partNumbered x i)) n)))
+  stands-more n =
+      ap (λ (m : ℕ). found (firstTo (λ i. isOf r (partNumbered x i)) m) (λ i. true) false) (add-one n)
+      ∙ one-more (firstTo (λ i. isOf r (partNumbered x i)) n) (isOf r (partNumbered x n)) n
 
--- ---- part j, which code has read as p
-module _ (x : ℕ → Circuit) (j : ℕ) (w : List ℕ) (m : Seen x w j) (p : Part) (y : p ≡ partNumbered x j) where
-  -- it is new if it is absent, or one of its bits is not set
-  pub new-part : p .present && already w (p .reference) ≡ false → repeated x j ≡ false
+-- ---- part j, before which those in range are in filter w
+module _ (x : ℕ → Circuit) (j : ℕ) where
+  absent-new : partNumbered x j .present ≡ false → repeated x j ≡ false
   unfolding repeated
-  new-part h =
+  absent-new h =
       nothing-found (λ k. clash (partNumbered x k) (partNumbered x j)) j (λ k. true) false
-      (λ k l.
-      no-clash (partNumbered x k) (partNumbered x j)
-      (λ a b e.
-      let set = and-both _ _ b (subst (λ (r : List ℕ). already w r ≡ true) e (m .set k l a)) in
-      true≢false (sym set ∙ ap (λ (q : Part). q .present && already w (q .reference)) (sym y) ∙ h)))
+      (λ k l. no-clash (partNumbered x k) (partNumbered x j) (λ a b e. true≢false (sym b ∙ h)))
 
-  -- of any other the search decides
-  pub by-search : p .present && already w (p .reference) ≡ true → standsTo x (p .reference) j ≡ repeated x j
+  -- of a part that is present the search decides
+  pub by-search : partNumbered x j .present ≡ true → standsTo x (partNumbered x j .reference) j ≡ repeated x j
   unfolding repeated standsTo
   by-search h =
-      let here : partNumbered x j .present ≡ true = ap (λ (q : Part). q .present) (sym y) ∙ and-left (p .present) (already w (p .reference)) h in
-      ap (λ (q : Part). standsTo x (q .reference) j) y
-      ∙ ap (λ (f : Found). found f (λ k. true) false)
+      ap (λ (f : Found). found f (λ k. true) false)
       (first-cong (λ k. isOf (partNumbered x j .reference) (partNumbered x k)) (λ k. clash (partNumbered x k) (partNumbered x j)) j
-      (λ k l. ap (λ (b : Bool). b && same (partNumbered x k .reference) (partNumbered x j .reference)) (sym (and-true (partNumbered x k .present)) ∙ ap (λ (b : Bool). partNumbered x k .present && b) (sym here))))
+      (λ k l. ap (λ (b : Bool). b && same (partNumbered x k .reference) (partNumbered x j .reference)) (sym (and-true (partNumbered x k .present)) ∙ ap (λ (b : Bool). partNumbered x k .present && b) (sym h))))
 
-  -- it is noted
-  pub seen-more : (v : List ℕ) → Grown w v (p .reference) (p .present) → Seen x v (j + 1)
-  seen-more v g =
-      record {
-        full = g .long ∙ m .full;
-        set =
-            λ k l.
-            grow (λ (k : ℕ). partNumbered x k .present ≡ true → already v (partNumbered x k .reference) ≡ true) j
-            (λ i l p. g .kept _ (m .set i l p)) (subst (λ (q : Part). q .present ≡ true → already v (q .reference) ≡ true) y (g .here)) k
-            (subst (λ (n : ℕ). k < n) (add-one j) l);
-      }
+  module _ (from to : ℕ) where
+    pub absent-passed : partNumbered x j .present ≡ false → false ≡ repeatedIn from to x j
+    absent-passed h = second-off (inRange from to (partNumbered x j .reference)) (repeated x j) (absent-new h)
+
+    module _ (w : List ℕ) (m : Seen x from to w j) where
+      -- it is new if one of its bits is not set
+      unset-new : inRange from to (partNumbered x j .reference) ≡ true → already w (partNumbered x j .reference) ≡ false → repeated x j ≡ false
+      unfolding repeated
+      unset-new i h =
+          nothing-found (λ k. clash (partNumbered x k) (partNumbered x j)) j (λ k. true) false
+          (λ k l.
+          no-clash (partNumbered x k) (partNumbered x j)
+          (λ a b e.
+          let ranged = ap (inRange from to) e ∙ i in
+          true≢false (sym (m .set k l a ranged) ∙ ap (already w) e ∙ h)))
+
+      -- it is out of range, or new
+      pub not-repeated : inRange from to (partNumbered x j .reference) && already w (partNumbered x j .reference) ≡ false → false ≡ repeatedIn from to x j
+      not-repeated h =
+          by-so (inRange from to (partNumbered x j .reference))
+          (λ i. second-off (inRange from to (partNumbered x j .reference)) (repeated x j) (unset-new i (ap (λ (b : Bool). b && already w (partNumbered x j .reference)) (sym i) ∙ h)))
+          (λ i. ap (λ (b : Bool). b && repeated x j) (sym i))
+
+      pub seen-more : (v : List ℕ) → length v ≡ length w → ((s : List ℕ) → already w s ≡ true → already v s ≡ true)
+          → (partNumbered x j .present ≡ true → inRange from to (partNumbered x j .reference) ≡ true → already v (partNumbered x j .reference) ≡ true) → Seen x from to v (j + 1)
+      seen-more v long kept here =
+          record {
+            full = long ∙ m .full;
+            set =
+                λ k l.
+                grow (λ (k : ℕ). partNumbered x k .present ≡ true → inRange from to (partNumbered x k .reference) ≡ true → already v (partNumbered x k .reference) ≡ true) j
+                (λ i l p q. kept _ (m .set i l p q)) here k
+                (subst (λ (n : ℕ). k < n) (add-one j) l);
+          }
+
+-- ---- reference r, which is in range or not
+module _ (w r : List ℕ) (from to : ℕ) where
+  pub passed-over : inRange from to r ≡ false → (false ≡ inRange from to r && already w r) × Grown w w r (inRange from to r)
+  passed-over h = (
+    ap (λ (b : Bool). b && already w r) (sym h),
+    record { long = refl; kept = λ s k. k; here = λ p. absurd (true≢false (sym p ∙ h)) },
+  )
+
+  pub noted : (v : List ℕ) {b : Bool} → inRange from to r ≡ true → b ≡ already w r → Grown w v r true → (b ≡ inRange from to r && already w r) × Grown w v r (inRange from to r)
+  noted v h e g = (
+    e ∙ ap (λ (b : Bool). b && already w r) (sym h),
+    record { long = g .long; kept = g .kept; here = λ p. g .here refl },
+  )

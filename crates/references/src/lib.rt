@@ -1,18 +1,27 @@
 // This crate tells whether a call reference stands in two parts. A filter of bits says at once of most references that they are new;
-// only where both bits of one are set already are the earlier parts searched.
-use rules::part::Part;
+// only where all bits of one are set already are the earlier parts searched.
 use rules::part::Reference;
 use rules::search::Found;
 ghost use mathlib.Core.Path.{_≡_};
-ghost use mathlib.Core.Bool.{true, _&&_, _||_};
-ghost use Prim.Native.Nat.{_+_, _*_, _/_, _<_, _≤_};
+ghost use mathlib.Core.Bool.{true, cond, _&&_, _||_};
+ghost use Prim.Native.Nat.{_+_, _*_, _<_, _≤_};
 ghost use lib.ListN.{length};
+ghost use lib.Dec.{ltb};
 ghost use Rattle.rules.specs.Circuit.{isOf};
 ghost use Rattle.rules.specs.Search.{firstTo};
 ghost use Rattle.rules.specs.Valid.{partNumbered, repeated};
 ghost use Rattle.rules.specs.Records.{circuits, circuitAt};
-ghost use Rattle.references.specs.Filter.{bitsIn, already, standsTo, Grown, Seen};
+ghost use Rattle.references.specs.Filter.{stems, inRange, bitsIn, already, standsTo, repeatedIn, Grown, Seen, Lowest};
 ghost use Rattle.references.specs.Filter as filter;
+
+// The filter has so many words of 64 bits: 256 octets of stack.
+const WORDS: usize = 32;
+
+// The stems of references lie below this.
+const STEMS: u64 = 4294967296;
+
+// A pass is made for each so many circuits begun, so that at most 172 references stand in the filter at a time, but for chance.
+const AT_ONCE: usize = 86;
 
 fn wide(x: u8) -> u64
     ensures { λ r. ⌜ (r ≡ x) × (r < 256) ⌝ }
@@ -20,43 +29,57 @@ fn wide(x: u8) -> u64
     x as u64
 }
 
+// Gives the stem of a reference, which says in which pass it is noted. It leaves the last octet out, so that whoever is passed over is so
+// with one multiplication.
+fn stem(r: Reference) -> u64
+    ensures stem { λ v. ⌜ v ≡ filter.stem r ⌝ }
+    ensures below { λ v. ⌜ v < stems ⌝ }
+{
+    octets::join_four(r[0], r[1], r[2], r[3]) as u64 * 1540483477 % STEMS
+}
+
 // Gives a number in which each octet of a reference tells on many bits, so that the numbers of like references differ.
 fn spread(r: Reference) -> u64
     ensures { λ v. ⌜ v ≡ filter.spread r ⌝ }
 {
-    let low = octets::join_four(r[0], r[1], r[2], r[3]) as u64;
-    (low + 10368889 * wide(r[4])) * 1540483477
+    stem(r) * 695872825 + 739982445 * wide(r[4])
 }
 
-// Gives the two bits that stand for a reference in its word, by its spread number.
+// Gives the three bits that stand for a reference in its word, by its spread number.
 fn bits(v: u64) -> u64
     ensures { λ r. ⌜ r ≡ bitsIn v ⌝ }
 {
-    (1 << (v / 1048576 % 64)) | (1 << (v / 4294967296 % 64))
+    (1 << (v / 16384 % 64)) | (1 << (v / 1048576 % 64)) | (1 << (v / 67108864 % 64))
 }
 
 // Sets the bits of a reference, and says whether all of them were set before.
-fn set_bits(w: &mut [u64; 64], r: Reference) -> bool
-    requires { ⌜ length (now w) ≡ 64 ⌝ }
+fn set_bits(w: &mut [u64; WORDS], r: Reference) -> bool
+    requires { ⌜ length (now w) ≡ 32 ⌝ }
     ensures lit { λ b. ⌜ b ≡ already (now (w .entry)) r ⌝ }
     ensures words { λ _. ⌜ Grown (now (w .entry)) (now (w .exit)) r true ⌝ }
 {
     let v = spread(r);
-    let k = (v / 67108864 % 64) as usize;
+    let k = (v / 4294967296 % 32) as usize;
     let old = w[k];
     let new = old | bits(v);
     w[k] = new;
     new == old
 }
 
-// Notes a part that is present, and says whether its reference may stand in an earlier part.
-fn may_repeat(w: &mut [u64; 64], p: Part) -> bool
-    requires { ⌜ length (now w) ≡ 64 ⌝ }
-    ensures lit { λ b. ⌜ b ≡ p .present && already (now (w .entry)) (p .reference) ⌝ }
-    ensures words { λ _. ⌜ Grown (now (w .entry)) (now (w .exit)) (p .reference) (p .present) ⌝ }
+// Notes a reference whose stem is from `from` on and below `to`, and says whether it may stand in an earlier part; any other is passed over.
+fn may_repeat(w: &mut [u64; WORDS], r: Reference, from: u64, to: u64) -> bool
+    requires { ⌜ length (now w) ≡ 32 ⌝ }
+    ensures lit { λ b. ⌜ b ≡ inRange from to r && already (now (w .entry)) r ⌝ }
+    ensures words { λ _. ⌜ Grown (now (w .entry)) (now (w .exit)) r (inRange from to r) ⌝ }
 {
-    let r = p.reference;
-    if p.present { set_bits(w, r) } else { false }
+    let stem = stem(r);
+    if stem < from {
+        return false;
+    }
+    if to <= stem {
+        return false;
+    }
+    set_bits(w, r)
 }
 
 // Tells whether the call with this reference stands on circuit i.
@@ -64,16 +87,14 @@ fn stands_on(t: &[u8], i: usize, r: Reference) -> bool
     requires { ⌜ i < circuits (now t) ⌝ }
     ensures { λ b. ⌜ b ≡ isOf r (partNumbered (circuitAt (now (t .entry))) (2 * i)) || isOf r (partNumbered (circuitAt (now (t .entry))) (2 * i + 1)) ⌝ }
 {
-    let holder = table::part_numbered(t, 2 * i);
-    let reservation = table::part_numbered(t, 2 * i + 1);
-    if holder.is_of(r) {
+    if table::stands_in(t, i, 0, r) {
         return true;
     }
-    reservation.is_of(r)
+    table::stands_in(t, i, 1, r)
 }
 
 // Tells whether the call with this reference stands on a circuit below i.
-fn stands_below(t: &[u8], i: usize, r: Reference) -> bool
+pub fn stands_below(t: &[u8], i: usize, r: Reference) -> bool
     requires { ⌜ i ≤ circuits (now t) ⌝ }
     ensures { λ b. ⌜ b ≡ standsTo (circuitAt (now (t .entry))) r (2 * i) ⌝ }
 {
@@ -87,55 +108,99 @@ fn stands_below(t: &[u8], i: usize, r: Reference) -> bool
     false
 }
 
-// Notes the holder's reference of circuit i, if there is one, and tells whether it stands in an earlier part.
-fn note_holder(t: &[u8], w: &mut [u64; 64], i: usize) -> bool
+// Tells whether the call with this reference stands in a part before that of circuit i on a side, its holder's included before its
+// reservation's.
+fn stands_before(t: &[u8], i: usize, side: usize, r: Reference) -> bool
     requires { ⌜ i < circuits (now t) ⌝ }
-    requires { ⌜ Seen (circuitAt (now t)) (now w) (2 * i) ⌝ }
-    ensures twice { λ b. ⌜ b ≡ repeated (circuitAt (now (t .entry))) (2 * i) ⌝ }
-    ensures words { λ _. ⌜ Seen (circuitAt (now (t .entry))) (now (w .exit)) (2 * i + 1) ⌝ }
+    requires { ⌜ side < 2 ⌝ }
+    ensures { λ b. ⌜ b ≡ standsTo (circuitAt (now (t .entry))) r (2 * i + side) ⌝ }
 {
-    let p = table::part_numbered(t, 2 * i);
-    let r = p.reference;
-    if !may_repeat(w, p) {
-        return false;
-    }
-    stands_below(t, i, r)
-}
-
-// Notes the reservation's reference of circuit i, if there is one, and tells whether it stands in an earlier part, its holder's included.
-fn note_reservation(t: &[u8], w: &mut [u64; 64], i: usize) -> bool
-    requires { ⌜ i < circuits (now t) ⌝ }
-    requires { ⌜ Seen (circuitAt (now t)) (now w) (2 * i + 1) ⌝ }
-    ensures twice { λ b. ⌜ b ≡ repeated (circuitAt (now (t .entry))) (2 * i + 1) ⌝ }
-    ensures words { λ _. ⌜ Seen (circuitAt (now (t .entry))) (now (w .exit)) (2 * i + 1 + 1) ⌝ }
-{
-    let holder = table::part_numbered(t, 2 * i);
-    let p = table::part_numbered(t, 2 * i + 1);
-    let r = p.reference;
-    if !may_repeat(w, p) {
-        return false;
-    }
-    if holder.is_of(r) {
+    if stands_below(t, i, r) {
         return true;
     }
-    stands_below(t, i, r)
+    if side == 1 {
+        table::stands_in(t, i, 0, r)
+    } else {
+        false
+    }
 }
 
-// Finds the first part whose reference stands in an earlier part.
+// Notes the reference of circuit i on a side, if that part is present and in range, and tells whether it stands in an earlier part.
+fn note(t: &[u8], w: &mut [u64; WORDS], i: usize, side: usize, from: u64, to: u64) -> bool
+    requires { ⌜ i < circuits (now t) ⌝ }
+    requires { ⌜ side < 2 ⌝ }
+    requires { ⌜ Seen (circuitAt (now t)) from to (now w) (2 * i + side) ⌝ }
+    ensures twice { λ b. ⌜ b ≡ repeatedIn from to (circuitAt (now (t .entry))) (2 * i + side) ⌝ }
+    ensures words { λ _. ⌜ Seen (circuitAt (now (t .entry))) from to (now (w .exit)) (2 * i + side + 1) ⌝ }
+{
+    if !table::present_on(t, i, side) {
+        return false;
+    }
+    let r = table::reference_on(t, i, side);
+    if !may_repeat(w, r, from, to) {
+        return false;
+    }
+    stands_before(t, i, side, r)
+}
+
+// Goes through all parts of n circuits and gives the first that is in range and whose reference stands in an earlier part; where there is none, their
+// number.
+fn pass(t: &[u8], n: usize, from: u64, to: u64) -> usize
+    requires { ⌜ n ≡ circuits (now t) ⌝ }
+    ensures { λ r. ⌜ Lowest (circuitAt (now (t .entry))) from to (2 * n) r ⌝ }
+{
+    let mut w = [0u64; WORDS];
+    let mut i = 0;
+    while i < n {
+        if note(t, &mut w, i, 0, from, to) {
+            return 2 * i;
+        }
+        if note(t, &mut w, i, 1, from, to) {
+            return 2 * i + 1;
+        }
+        i += 1;
+    }
+    2 * n
+}
+
+// Gives how many stems a pass over n circuits takes.
+fn share(n: usize) -> u64
+    ensures { λ r. ⌜ (1 ≤ r) × (r ≤ stems) ⌝ }
+{
+    if n < AT_ONCE {
+        return STEMS;
+    }
+    if n < 2 * AT_ONCE {
+        STEMS / 2
+    } else {
+        STEMS / 3 + 1
+    }
+}
+
+fn least(a: usize, b: usize) -> usize
+    ensures { λ r. ⌜ r ≡ cond (ltb a b) a b ⌝ }
+{
+    if a < b { a } else { b }
+}
+
+// Finds the first part whose reference stands in an earlier part. Equal references have one stem, so each pass finds those of its own range, and the
+// lowest of any pass is the first.
 pub fn first_repeated(t: &[u8]) -> Found
     ensures { λ r. ⌜ r ≡ firstTo (repeated (circuitAt (now (t .entry)))) (2 * circuits (now (t .entry))) ⌝ }
 {
     let n = table::count(t);
-    let mut w = [0u64; 64];
-    let mut i = 0;
-    while i < n {
-        if note_holder(t, &mut w, i) {
-            return Found::At(2 * i);
-        }
-        if note_reservation(t, &mut w, i) {
-            return Found::At(2 * i + 1);
-        }
-        i += 1;
+    let mut lowest = 2 * n;
+    let mut from = 0;
+    let mut to = share(n);
+    while from < STEMS {
+        lowest = least(pass(t, n, from, to), lowest);
+        let next = to + (to - from);
+        from = to;
+        to = next;
     }
-    Found::Nothing
+    if lowest / 2 < n {
+        Found::At(lowest)
+    } else {
+        Found::Nothing
+    }
 }

@@ -1,57 +1,50 @@
--- The loop has passed no repeated part, and the filter has seen them all.
-use Prim.Native.Nat.{ℕ, _+_, _*_, _≤_, _<_, _-_}
-use mathlib.Core.Path.{_≡_, refl, sym, _∙_, subst}
-use mathlib.Core.Bool.{false}
+-- The lowest of the passes made is kept, until every stem has had its pass.
+use Prim.Native.Nat.{_+_, _*_, _≤_, _<_, _-_}
+use mathlib.Core.Path.{_≡_, sym}
 use native.Mathlib.Omega.{arith}
 use denote.Ref.{now}
-use borrow.Author.Count.{below-more}
 use borrow.Author.Needs.{needs}
 use Rattle.rules.specs.Valid.{repeated}
 use Rattle.rules.specs.Records.{circuitAt, circuits}
 use Rattle.rules.proofs.Searches.{first-of, first-none}
-use Rattle.references.specs.Filter.{Seen}
+use Rattle.references.specs.Filter.{stems}
+use Rattle.references.proofs.Passes.{Sifted, sifted-none, sift-more, sifted-all}
 use Rattle.references.proofs.first_repeated.Statement.{statement}
 use Rattle.references.proofs.first_repeated.Tie as tie
 
 abbrev Inv-loop : tie.InvT-loop
-Inv-loop t n w₀ i₀ w i = (i ≤ n) × ((j : ℕ) → j < 2 * i → repeated (circuitAt t) j ≡ false) × Seen (circuitAt t) w (2 * i) × (n ≡ circuits t)
+Inv-loop t n lowest₀ from₀ to₀ lowest from to = (from < to) × (to ≤ from + stems) × Sifted (circuitAt t) (2 * n) from lowest
 
 abbrev μ-loop : tie.MeasureT-loop
-μ-loop t n w₀ i₀ w i = n - i
-
-holder : tie.Need-returns Inv-loop μ-loop
-holder c =
-    let four = c .before .before .before .before in
-    let t = now (four .before .before .before .args .t) in
-    sym
-    (first-of (repeated (circuitAt t)) (2 * circuits t) (2 * four .loop .i) (omega arith) (four .loop .inv .1) (sym (c .before .note-holder .ensures .0) ∙ c .if1 .taken))
-
-reservation : tie.Need-returns-2 Inv-loop μ-loop
-reservation c =
-    let first = c .before .before .before in
-    let seven = first .before .before .before .before in
-    let t = now (seven .before .before .before .args .t) in
-    sym
-    (first-of (repeated (circuitAt t)) (2 * circuits t) (2 * seven .loop .i + 1) (omega arith)
-    (below-more _ _ (seven .loop .inv .1) (sym (first .before .note-holder .ensures .0) ∙ first .if1 .left))
-    (sym (c .before .note-reservation .ensures .0) ∙ c .if2 .taken))
+μ-loop t n lowest₀ from₀ to₀ lowest from to = stems - from
 
 again : tie.Need-loop-again Inv-loop μ-loop
 again c =
-    let first = c .before .before .before in
-    let seven = first .before .before .before .before in
-    let below = below-more _ _ (seven .loop .inv .1) (sym (first .before .note-holder .ensures .0) ∙ first .if1 .left) in
-    let next : 2 * seven .loop .i + 1 + 1 ≡ 2 * (seven .loop .i + 1) = omega arith in (
-      omega arith,
-      (λ j l. below-more _ _ below (sym (c .before .note-reservation .ensures .0) ∙ c .if2 .left) j (omega arith)),
-      subst (Seen (circuitAt (now (seven .before .before .before .args .t))) _) next (c .before .note-reservation .ensures .1),
-      seven .loop .inv .3,
+    let at = c .before .before .before in
+    let a = at .before .before .before .before .args in (
+      omega (arith, at .loop .inv .0),
+      omega (arith, at .loop .inv .0, at .loop .inv .1),
+      sift-more (circuitAt (now (a .t))) _ (at .loop .from) (at .loop .to) (at .loop .lowest) (at .loop .inv .2) _ (c .before .pass .ensures) (c .least .ensures),
     )
 
-nowhere : tie.Need-returns-3 Inv-loop μ-loop
-nowhere c =
-    let t = now (c .before .before .before .before .args .t) in
-    sym (first-none (repeated (circuitAt t)) (2 * circuits t) (λ j h. c .before .loop .inv .1 j (omega arith)))
+repeats : tie.Need-returns Inv-loop μ-loop
+repeats c =
+    let at = c .before .before in
+    let t = now (at .before .before .before .before .args .t) in
+    let counted = at .before .before .count .ensures in
+    let s = at .loop .inv .2 in
+    sym
+    (first-of (repeated (circuitAt t)) (2 * circuits t) (at .loop .lowest) (omega arith)
+    (sifted-all (circuitAt t) _ (at .loop .from) (at .loop .lowest) (c .before .loop-test .left) s) (s .there (omega arith)))
+
+none : tie.Need-returns-2 Inv-loop μ-loop
+none c =
+    let at = c .before .before in
+    let t = now (at .before .before .before .before .args .t) in
+    let counted = at .before .before .count .ensures in
+    sym
+    (first-none (repeated (circuitAt t)) (2 * circuits t)
+    (λ j l. sifted-all (circuitAt t) _ (at .loop .from) (at .loop .lowest) (c .before .loop-test .left) (at .loop .inv .2) j (omega arith)))
 
 pub first-repeated-spec : {M : Type 1} → statement M
 first-repeated-spec =
@@ -60,15 +53,14 @@ first-repeated-spec =
     Inv-loop
     μ-loop
     (λ c κs. search needs)
-    (λ c. (omega arith, (λ j l. absurd (omega arith)), record { full = refl; set = λ k l. absurd (omega arith) }, c .count .ensures))
-    (λ c κs. (omega arith, c .before .before .loop .inv .2))
-    (λ c. omega arith)
-    holder
-    (λ c κs. (omega arith, c .before .before .note-holder .ensures .1))
-    (λ c. omega arith)
-    (λ c. omega arith)
-    reservation
-    (λ c. omega arith)
-    (λ c. omega arith)
+    (λ c. omega (arith, c .count .ensures))
+    (λ c κs. search needs)
+    (λ c. (omega (arith, c .share .ensures .0), omega (arith, c .share .ensures .1), sifted-none _ _))
+    (λ c κs. c .before .before .before .count .ensures)
+    (λ c κs. search needs)
+    (λ c. omega (arith, c .before .before .before .loop .inv .0))
+    (λ c. omega (arith, c .before .before .before .loop .inv .0, c .before .before .before .loop .inv .1))
+    (λ c. omega (arith, c .before .before .before .loop .inv .0))
     again
-    nowhere)
+    repeats
+    none)

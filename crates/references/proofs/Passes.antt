@@ -1,0 +1,51 @@
+-- The passes together: each finds the lowest repeated part of its own range, and the ranges follow each other until every stem has had its pass.
+use Prim.Native.Nat.{ℕ, _<_, _≤_}
+use mathlib.Core.Path.{_≡_, sym, ap, subst, _∙_}
+use mathlib.Core.Bool.{Bool, true, false, cond, _&&_}
+use mathlib.Core.List.{List}
+use native.Mathlib.Omega.{arith}
+use lib.Dec.{ltb}
+use borrow.Author.Tests.{ltb-true, ltb-false, le-leb, lt-ltb}
+use Rattle.octets.proofs.Tests.{and-both, by-so}
+use Rattle.rules.specs.declared.circuit.Circuit.{Circuit}
+use Rattle.rules.specs.Valid.{partNumbered, repeated}
+use Rattle.references.specs.Filter.{stems, stem, inRange, repeatedIn, Lowest}
+
+stem-below : (r : List ℕ) → stem r < stems
+unfolding stem
+stem-below r = omega arith
+
+-- of the first m parts k is the lowest that is repeated and has a stem below `from`; where there is none, k is m
+pub record Sifted (x : ℕ → Circuit) (m from k : ℕ) : Type 0 where
+  pub most : k ≤ m
+  pub before : (j : ℕ) → j < k → stem (partNumbered x j .reference) < from → repeated x j ≡ false
+  pub there : k < m → repeated x k ≡ true
+
+module _ (x : ℕ → Circuit) (m : ℕ) where
+  pub sifted-none : Sifted x m 0 m
+  sifted-none = record { most = omega arith; before = λ j l h. absurd (omega arith); there = λ l. absurd (omega arith) }
+
+  module _ (from to : ℕ) (k : ℕ) (s : Sifted x m from k) (n : ℕ) (p : Lowest x from to m n) where
+    -- what stands below both has had its pass
+    below-both : (j : ℕ) → j < k → j < n → stem (partNumbered x j .reference) < to → repeated x j ≡ false
+    below-both j h g l =
+        let at = stem (partNumbered x j .reference) in
+        by-so (ltb at from) (λ b. s .before j h (ltb-true at from b))
+        (λ b.
+        let ranged = and-both _ _ (le-leb from at (ltb-false at from b)) (lt-ltb at to l) in
+        ap (λ (b : Bool). b && repeated x j) (sym ranged) ∙ p .before j g)
+
+    pub sift-more : {c : ℕ} → c ≡ cond (ltb n k) n k → Sifted x m to c
+    sift-more e =
+        subst (Sifted x m to) (sym e)
+        (by-so (ltb n k)
+        (λ b.
+        let l = ltb-true n k b in
+        subst (λ (b : Bool). Sifted x m to (cond b n k)) (sym b) (record { most = p .most; before = λ j h. below-both j (omega arith) h; there = p .there }))
+        (λ b.
+        let l = ltb-false n k b in
+        subst (λ (b : Bool). Sifted x m to (cond b n k)) (sym b) (record { most = s .most; before = λ j h. below-both j h (omega arith); there = s .there })))
+
+  -- after the last pass
+  pub sifted-all : (from k : ℕ) → stems ≤ from → Sifted x m from k → (j : ℕ) → j < k → repeated x j ≡ false
+  sifted-all from k l s j h = s .before j h (omega (arith, stem-below (partNumbered x j .reference)))
