@@ -1,4 +1,4 @@
 pub mod Walk
 pub mod Carried
-pub mod Improved
+pub mod Ranked
 pub mod Sides

@@ -6,6 +6,9 @@ use Rattle.rules.specs.declared.search.Found.{Found}
 use Rattle.rules.specs.declared.search.Found.the-variants.{At, Nothing}
 use Rattle.choice.specs.declared.Best.{Best}
 
+abbrev pub above : ℕ → ℕ → ℕ  -- rank k if it is above the greatest so far, else 0
+above top k = cond (ltb top k) k 0
+
 abbrev pub improved : Best → ℕ → ℕ → Best  -- circuit i of a greater rank replaces the best so far
 improved b here i = cond (ltb (b .rank) here) (record { rank = here; at = i }) b
 
