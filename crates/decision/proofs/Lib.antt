@@ -1,2 +1,3 @@
 pub mod Named
 pub mod Findings
+pub mod Nowhere

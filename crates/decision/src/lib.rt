@@ -12,9 +12,10 @@ use rules::search::Found;
 use rules::verdict::Verdict;
 ghost use mathlib.Core.Path.{_≡_};
 ghost use mathlib.Core.Bool.{true, false, not, _||_};
-ghost use Prim.Native.Nat.{_≤_};
+ghost use Prim.Native.Nat.{_≤_, _<_};
 ghost use Rattle.rules.specs.Circuit.{outranks};
-ghost use Rattle.rules.specs.Decision.{onReservation, blocked, setUpUnheld, setUp, standsNowhere, lookAhead, release, cancel};
+ghost use Rattle.rules.specs.Decision.{onReservation, blocked, setUp, standsNowhere, lookAhead, release, cancel};
+ghost use Rattle.rules.specs.Choice.{reservedBy};
 ghost use Rattle.rules.specs.Decision as rule;
 ghost use Rattle.rules.specs.Valid as table;
 ghost use Rattle.rules.specs.Run.{outcomeOf};
@@ -57,48 +58,49 @@ fn blocked(e: Event) -> Refusal
     }
 }
 
-// Makes the choice for a call that stands nowhere: the act is done on the circuit chosen, or refused for want of one.
-fn chosen(t: &[u8], e: Event, act: Act, want: Refusal) -> Outcome
-    ensures { λ r. ⌜ r ≡ rule.chosen (circuitAt (now (t .entry))) (circuits (now (t .entry))) e act want ⌝ }
+// Tells whether the call with this reference stands on no circuit, neither as a holder nor as a reserver, in one walk.
+fn stands_nowhere(t: &[u8], reference: Reference) -> bool
+    ensures { λ r. ⌜ r ≡ standsNowhere (circuitAt (now (t .entry))) (circuits (now (t .entry))) reference ⌝ }
 {
-    match choice::choose(t, e.mark) {
-        Found::At(i) => Outcome::Do(act, i),
-        Found::Nothing => Outcome::Refuse(want),
-    }
+    !references::stands_below(t, table::count(t), reference)
 }
 
-// Decides a set-up by a call that holds nothing.
-fn set_up_unheld(t: &[u8], e: Event) -> Outcome
-    ensures { λ r. ⌜ r ≡ setUpUnheld (circuitAt (now (t .entry))) (circuits (now (t .entry))) e ⌝ }
-{
-    let reference = e.reference;
-    match choice::reserved_by(t, reference) {
-        Found::At(i) => on_reservation(e, table::circuit_at(t, i), i),
-        Found::Nothing => chosen(t, e, Act::Seize, blocked(e)),
-    }
-}
-
-// Decides a set-up.
-fn set_up(t: &[u8], e: Event) -> Outcome
+// Decides a set-up by a call that has reserved circuit i.
+fn set_up_reserver(t: &[u8], e: Event, i: usize) -> Outcome
+    requires { ⌜ i < circuits (now t) ⌝ }
+    requires { ⌜ reservedBy (circuitAt (now t)) (circuits (now t)) (e .reference) ≡ Found.At i ⌝ }
     ensures { λ r. ⌜ r ≡ setUp (circuitAt (now (t .entry))) (circuits (now (t .entry))) e ⌝ }
 {
     let reference = e.reference;
     match choice::held_by(t, reference) {
         Found::At(_) => Outcome::Refuse(Refusal::AlreadyThere),
-        Found::Nothing => set_up_unheld(t, e),
+        Found::Nothing => on_reservation(e, table::circuit_at(t, i), i),
     }
 }
 
-// Tells whether the call with this reference stands on no circuit.
-fn stands_nowhere(t: &[u8], reference: Reference) -> bool
-    ensures { λ r. ⌜ r ≡ standsNowhere (circuitAt (now (t .entry))) (circuits (now (t .entry))) reference ⌝ }
+// Decides a set-up by a call that stands somewhere: if it has reserved nothing, it holds.
+fn set_up_known(t: &[u8], e: Event) -> Outcome
+    requires { ⌜ standsNowhere (circuitAt (now t)) (circuits (now t)) (e .reference) ≡ false ⌝ }
+    ensures { λ r. ⌜ r ≡ setUp (circuitAt (now (t .entry))) (circuits (now (t .entry))) e ⌝ }
 {
-    match choice::held_by(t, reference) {
-        Found::At(_) => false,
-        Found::Nothing => match choice::reserved_by(t, reference) {
-            Found::At(_) => false,
-            Found::Nothing => true,
-        },
+    let reference = e.reference;
+    match choice::reserved_by(t, reference) {
+        Found::At(i) => set_up_reserver(t, e, i),
+        Found::Nothing => Outcome::Refuse(Refusal::AlreadyThere),
+    }
+}
+
+// Decides a set-up. A call that stands nowhere, as most do that ask for a circuit, is told apart by one walk, and the choice is made.
+fn set_up(t: &[u8], e: Event) -> Outcome
+    ensures { λ r. ⌜ r ≡ setUp (circuitAt (now (t .entry))) (circuits (now (t .entry))) e ⌝ }
+{
+    let reference = e.reference;
+    if !stands_nowhere(t, reference) {
+        return set_up_known(t, e);
+    }
+    match choice::choose(t, e.mark) {
+        Found::At(i) => Outcome::Do(Act::Seize, i),
+        Found::Nothing => Outcome::Refuse(blocked(e)),
     }
 }
 
@@ -116,7 +118,10 @@ fn look_ahead(t: &[u8], e: Event) -> Outcome
     if !stands_nowhere(t, reference) {
         return Outcome::Refuse(Refusal::AlreadyThere);
     }
-    chosen(t, e, Act::Reserve, Refusal::NoCircuitToReserve)
+    match choice::choose(t, e.mark) {
+        Found::At(i) => Outcome::Do(Act::Reserve, i),
+        Found::Nothing => Outcome::Refuse(Refusal::NoCircuitToReserve),
+    }
 }
 
 // Decides a release.
