@@ -105,7 +105,7 @@ fn removed(t: &[u8], clock: u32) -> u16
     let mut k: u16 = 0;
     let mut i = 0;
     while i < n {
-        k += one(table::circuit_at(t, i).overdue(clock));
+        k += one(table::overdue_at(t, i, clock));
         i += 1;
     }
     k

@@ -42,7 +42,7 @@ fn relieve(t: &mut [u8], e: Event, i: usize)
         (putCircuit (now (t .entry)) i (made e Act.Cancel (circuitAt (now (t .entry)) i)))
         (now (t .entry)) ⌝ }
 {
-    if table::circuit_at(t, i).overdue(e.clock) {
+    if table::overdue_at(t, i, e.clock) {
         renew(t, e, Act::Cancel, i);
     }
 }

@@ -45,7 +45,7 @@ fn word(t: &[u8], j: usize) -> u64
     let mut i = within(table::count(t), base);
     while 0 < i {
         i -= 1;
-        w = 2 * w + digit(table::circuit_at(t, base + i).free());
+        w = 2 * w + digit(table::free_at(t, base + i));
     }
     w
 }

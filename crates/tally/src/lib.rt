@@ -41,7 +41,7 @@ pub fn holders(t: &[u8]) -> u64
     let mut k: u64 = 0;
     let mut i = 0;
     while i < n {
-        k += one(table::holder_at(t, i).present);
+        k += one(table::held_at(t, i));
         i += 1;
     }
     k

@@ -25,13 +25,13 @@ abbrev μ-loop : tie.MeasureT-loop
 
 loop-again : tie.Need-loop-again Inv-loop μ-loop
 loop-again c =
-    let at = c .before .before .before .before in
+    let at = c .before .before .before in
     let a = at .before .before .before .args in
     let t = now (a .t) in
     let l = at .loop in (
       omega arith,
       ap₂ (λ (m w : ℕ). m + w) (l .inv .1)
-          (c .one .ensures .0 ∙ ap (λ (b : Bool). cond {A = ℕ} b 1 0) (c .before .overdue .ensures ∙ ap (overdue (a .clock)) (c .before .before .circuit-at .ensures)))
+          (c .one .ensures .0 ∙ ap (λ (b : Bool). cond {A = ℕ} b 1 0) (c .before .overdue-at .ensures))
           ∙ ap (countTo (due t (a .clock))) (sym (add-one (l .i))),
     )
 
@@ -52,8 +52,7 @@ removed-spec =
     (λ c. (omega arith, refl))
     (λ c κs. search needs)
     (λ c κs. search needs)
-    (λ c κs. search needs)
-    (λ c. let at = c .before .before .before .before in let a = at .before .before .before .args in let one = c .one .ensures .1 in let n = at .before .count .ensures in omega (arith, count-le (due (now (a .t)) (a .clock)) (at .loop .i)))
+    (λ c. let at = c .before .before .before in let a = at .before .before .before .args in let one = c .one .ensures .1 in let n = at .before .count .ensures in omega (arith, count-le (due (now (a .t)) (a .clock)) (at .loop .i)))
     (λ c. search needs)
     (λ c. search needs)
     loop-again

@@ -5,7 +5,6 @@ use mathlib.Core.Bool.{Bool, cond}
 use native.Mathlib.Omega.{arith}
 use denote.Ref.{now}
 use borrow.Author.Needs.{needs}
-use Rattle.rules.specs.Circuit.{free}
 use Rattle.rules.specs.Records.{circuitAt, circuits}
 use Rattle.lamps.specs.Lamps.{litAt, wordFrom}
 use Rattle.lamps.proofs.Words.{word-more, word-room}
@@ -30,15 +29,15 @@ mul-w : tie.Need-mul-w Inv-loop μ-loop
 mul-w c = let l = c .before .loop in omega (arith, word-room _ _ (l .i) (omega arith) (omega arith) (l .inv .2))
 
 add-w : tie.Need-add-w Inv-loop μ-loop
-add-w c = let l = c .before .before .before .before .loop in omega (arith, word-room _ _ (l .i) (omega arith) (omega arith) (l .inv .2))
+add-w c = let l = c .before .before .before .loop in omega (arith, word-room _ _ (l .i) (omega arith) (omega arith) (l .inv .2))
 
 loop-again : tie.Need-loop-again Inv-loop μ-loop
 loop-again c =
-    let l = c .before .before .before .before .loop in
-    let a = c .before .before .before .before .before .before .before .before .args in
+    let l = c .before .before .before .loop in
+    let a = c .before .before .before .before .before .before .before .args in
     let t = now (a .t) in
     let at = 64 * a .j + (l .i - 1) in
-    let on : c .before .free .result ≡ litAt t at = c .before .free .ensures ∙ ap free (c .before .before .circuit-at .ensures) ∙ sym (lit-below (circuitAt t) (circuits t) at (omega arith)) in
+    let on : c .before .free-at .result ≡ litAt t at = c .before .free-at .ensures ∙ sym (lit-below (circuitAt t) (circuits t) at (omega arith)) in
     let lamp = c .digit .ensures .0 ∙ ap (λ (b : Bool). cond b 1 0) on in
     (omega arith, omega arith, ap (λ (d : ℕ). 2 * l .w + d) lamp ∙ word-more (litAt t) (64 * a .j) (l .i) (omega arith) (omega arith) (l .inv .2))
 
@@ -64,7 +63,6 @@ word-spec =
     mul-w
     (λ c. omega arith)
     (λ c κs. omega arith)
-    (λ c κs. search needs)
     (λ c κs. search needs)
     add-w
     (λ c. omega arith)

@@ -6,7 +6,6 @@ use mathlib.Core.List.{List}
 use denote.Ref.{now}
 use native.Mathlib.Numerals.{add-one}
 use native.Mathlib.Omega.{arith}
-use Rattle.rules.specs.declared.part.Part.{Part}
 use Rattle.rules.specs.Search.{countTo}
 use Rattle.rules.specs.Records.{records, circuitAt, circuits}
 use Rattle.rules.proofs.Searches.{count-le}
@@ -30,7 +29,7 @@ loop-again c =
     let t = now (at .before .before .before .args .t) in
     let l = at .loop in (
       omega arith,
-      ap₂ (λ (m w : ℕ). m + w) (l .inv .1) (c .one .ensures .0 ∙ ap (λ (p : Part). one (p .present)) (c .before .holder-at .ensures))
+      ap₂ (λ (m w : ℕ). m + w) (l .inv .1) (c .one .ensures .0 ∙ ap one (c .before .held-at .ensures))
           ∙ ap (countTo (held t)) (sym (add-one (l .i))),
     )
 
