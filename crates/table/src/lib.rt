@@ -208,14 +208,6 @@ pub fn stands_in(t: &[u8], i: usize, side: usize, reference: Reference) -> bool
     }
 }
 
-// Reads part k: 2 i is the holder's of circuit i, and 2 i + 1 its reservation's.
-pub fn part_numbered(t: &[u8], k: usize) -> Part
-    requires { ⌜ k < 2 * circuits (now t) ⌝ }
-    ensures { λ r. ⌜ r ≡ partNumbered (circuitAt (now (t .entry))) k ⌝ }
-{
-    part_at(t, CIRCUIT_SIZE * (k / 2) + RESERVATION * (k % 2))
-}
-
 // Reads what stands at circuit i.
 pub fn circuit_at(t: &[u8], i: usize) -> Circuit
     requires { ⌜ i < circuits (now t) ⌝ }
