@@ -1,8 +1,8 @@
 # table.awk, after counts.awk: prints the tables, in Markdown.
 BEGIN {
     for (i = 1; i <= sizes; i++) budget["check, every part present"] = budget["check, every part present"] (i > 1 ? " / " : "") thousands(check_budget[size[i]])
-    budget["one event alone, mixed"] = "2,200 / 8,000 / 35,000"
-    budget["mixed list, an event"] = "500 / 1,600 / 6,100"
+    budget["one event alone, mixed"] = "2,000 / 7,000 / 32,000"
+    budget["mixed list, an event"] = "400 / 1,100 / 3,900"
 }
 
 function at_sizes(what, side,   i, out) {

@@ -28,7 +28,7 @@
 /* The version of this header: one number that grows, and its three parts. The major part grows where a host that ignores the change
  * would be wrong, the minor part with any other change that a host sees. */
 #define NAUSTVRI_VERSION_MAJOR 2
-#define NAUSTVRI_VERSION_MINOR 0
+#define NAUSTVRI_VERSION_MINOR 1
 #define NAUSTVRI_VERSION_PATCH 0
 #define NAUSTVRI_VERSION (NAUSTVRI_VERSION_MAJOR * 10000u + NAUSTVRI_VERSION_MINOR * 100u + NAUSTVRI_VERSION_PATCH)
 
