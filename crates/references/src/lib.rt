@@ -20,8 +20,8 @@ const WORDS: usize = 32;
 // The stems of references lie below this.
 const STEMS: u64 = 4294967296;
 
-// A pass is made for each so many circuits begun, so that at most 172 references stand in the filter at a time, but for chance.
-const AT_ONCE: usize = 86;
+// There are as many passes as let some so many references stand in the filter at a time.
+const AT_ONCE: usize = 172;
 
 fn wide(x: u8) -> u64
     ensures { λ r. ⌜ (r ≡ x) × (r < 256) ⌝ }
@@ -163,14 +163,35 @@ fn pass(t: &[u8], n: usize, from: u64, to: u64) -> usize
     2 * n
 }
 
-// Gives how many stems a pass over n circuits takes.
-fn share(n: usize) -> u64
+fn one(counts: bool) -> usize
+    ensures { λ r. ⌜ r ≤ 1 ⌝ }
+{
+    if counts { 1 } else { 0 }
+}
+
+// Counts how many of the first n circuits are reserved, from the last down: the loop then needs a register less.
+fn reserved(t: &[u8], n: usize) -> usize
+    requires { ⌜ n ≤ circuits (now t) ⌝ }
+    ensures { λ r. ⌜ r ≤ n ⌝ }
+{
+    let mut k = 0;
+    let mut i = n;
+    while 0 < i {
+        i -= 1;
+        k += one(table::reserved_at(t, i));
+    }
+    k
+}
+
+// Gives how many stems a pass over n circuits takes. Nearly every circuit may be held, and few are reserved, so the reservations are counted.
+fn share(t: &[u8], n: usize) -> u64
+    requires { ⌜ n ≤ circuits (now t) ⌝ }
     ensures { λ r. ⌜ (1 ≤ r) × (r ≤ stems) ⌝ }
 {
-    if n < AT_ONCE {
+    if 2 * n < AT_ONCE {
         return STEMS;
     }
-    if n < 2 * AT_ONCE {
+    if n + reserved(t, n) < 2 * AT_ONCE {
         STEMS / 2
     } else {
         STEMS / 3 + 1
@@ -191,7 +212,7 @@ pub fn first_repeated(t: &[u8]) -> Found
     let n = table::count(t);
     let mut lowest = 2 * n;
     let mut from = 0;
-    let mut to = share(n);
+    let mut to = share(t, n);
     while from < STEMS {
         lowest = least(pass(t, n, from, to), lowest);
         let next = to + (to - from);
