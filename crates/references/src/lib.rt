@@ -205,7 +205,7 @@ fn least(a: usize, b: usize) -> usize
 }
 
 // Finds the first part whose reference stands in an earlier part. Equal references have one stem, so each pass finds those of its own range, and the
-// lowest of any pass is the first.
+// lowest of any pass is the first. What is kept from pass to pass costs stack: the ranges carry their own width, and half of the lowest is held against n.
 pub fn first_repeated(t: &[u8]) -> Found
     ensures { λ r. ⌜ r ≡ firstTo (repeated (circuitAt (now (t .entry)))) (2 * circuits (now (t .entry))) ⌝ }
 {
