@@ -1,6 +1,6 @@
 -- A filter of references has three bits of one of 32 words for each. A pass over a table notes only the references whose stems lie in its
 -- range, so that few stand in the filter at a time.
-use Prim.Native.Nat.{ℕ, _+_, _*_, _/_, _%_, _<_, _≤_, _^_}
+use Prim.Native.Nat.{ℕ, _+_, _*_, _/_, _%_, _<_, _^_}
 use mathlib.Core.Path.{_≡_}
 use mathlib.Core.Bool.{Bool, true, false, _&&_}
 use mathlib.Core.List.{List}
@@ -59,11 +59,9 @@ pub record Seen (x : ℕ → Circuit) (from to : ℕ) (w : List ℕ) (j : ℕ) :
 abbrev pub repeatedIn : ℕ → ℕ → (ℕ → Circuit) → ℕ → Bool
 repeatedIn from to x k = inRange from to (partNumbered x k .reference) && repeated x k
 
--- of the first m parts k is the lowest that repeatedIn holds of; where it holds of none, k is m
-pub record Lowest (x : ℕ → Circuit) (from to m k : ℕ) : Type 0 where
-  pub most : k ≤ m
-  pub before : (j : ℕ) → j < k → repeatedIn from to x j ≡ false
-  pub there : k < m → repeated x k ≡ true
+-- the lowest number below m of which f holds; where there is none, m
+abbrev pub lowestTo : (ℕ → Bool) → ℕ → ℕ
+lowestTo f m = found (firstTo f m) (λ k. k) m
 
 -- the call with reference r stands in one of the first n parts
 unfoldable pub standsTo : (ℕ → Circuit) → List ℕ → ℕ → Bool

@@ -11,7 +11,7 @@ ghost use Rattle.rules.specs.Circuit.{isOf};
 ghost use Rattle.rules.specs.Search.{firstTo};
 ghost use Rattle.rules.specs.Valid.{partNumbered, repeated};
 ghost use Rattle.rules.specs.Records.{circuits, circuitAt};
-ghost use Rattle.references.specs.Filter.{stems, inRange, bitsIn, already, standsTo, repeatedIn, Grown, Seen, Lowest};
+ghost use Rattle.references.specs.Filter.{stems, inRange, bitsIn, already, standsTo, repeatedIn, lowestTo, Grown, Seen};
 ghost use Rattle.references.specs.Filter as filter;
 
 // The filter has so many words of 64 bits: 256 octets of stack.
@@ -147,7 +147,7 @@ fn note(t: &[u8], w: &mut [u64; WORDS], i: usize, side: usize, from: u64, to: u6
 // number.
 fn pass(t: &[u8], n: usize, from: u64, to: u64) -> usize
     requires { ⌜ n ≡ circuits (now t) ⌝ }
-    ensures { λ r. ⌜ Lowest (circuitAt (now (t .entry))) from to (2 * n) r ⌝ }
+    ensures { λ r. ⌜ r ≡ lowestTo (repeatedIn from to (circuitAt (now (t .entry)))) (2 * n) ⌝ }
 {
     let mut w = [0u64; WORDS];
     let mut i = 0;

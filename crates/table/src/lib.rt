@@ -28,7 +28,11 @@ pub const MOST_CIRCUITS: usize = 256;
 // A part has 12 octets, a reservation's clock aside.
 const PART_SIZE: usize = 12;
 
-// This says from which octet of a part on its call reference stands.
+// These say from which octet of a part on its level stands, then its domain, then its call reference.
+const LEVEL: usize = 1;
+
+const DOMAIN: usize = 2;
+
 const REFERENCE: usize = 7;
 
 // These say from which octet of a circuit on the reservation's part stands, then its clock, then the octets that belong to no part.
@@ -64,8 +68,8 @@ fn mark_at(t: &[u8], o: usize) -> Mark
     requires { ⌜ o + 12 ≤ length (now t) ⌝ }
     ensures { λ r. ⌜ r ≡ partAt (now (t .entry)) o .mark ⌝ }
 {
-    let level = Level::in_record(t[o + 1]);
-    let domain = octets::read_five(t, o + 2);
+    let level = Level::in_record(t[o + LEVEL]);
+    let domain = octets::read_five(t, o + DOMAIN);
     Mark { level, domain }
 }
 
@@ -144,7 +148,7 @@ pub fn level_at(t: &[u8], i: usize) -> Level
     ensures { λ r. ⌜ r ≡ standing (circuitAt (now (t .entry)) i) .level ⌝ }
 {
     let o = standing_part(t, i);
-    Level::in_record(t[o + 1])
+    Level::in_record(t[o + LEVEL])
 }
 
 // Reads the standing of circuit i: its two flags, and of its two marks the one that stands.

@@ -24,7 +24,7 @@ again c =
     let a = at .before .before .before .before .args in (
       omega (arith, at .loop .inv .0),
       omega (arith, at .loop .inv .0, at .loop .inv .1),
-      sift-more (circuitAt (now (a .t))) _ (at .loop .from) (at .loop .to) (at .loop .lowest) (at .loop .inv .2) _ (c .before .pass .ensures) (c .least .ensures),
+      sift-more (circuitAt (now (a .t))) _ (at .loop .from) (at .loop .to) (at .loop .lowest) (at .loop .inv .2) (c .before .pass .ensures) (c .least .ensures),
     )
 
 repeats : tie.Need-returns Inv-loop μ-loop

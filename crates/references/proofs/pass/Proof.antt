@@ -1,17 +1,16 @@
 -- The loop has passed no part that is in range and repeated, and the filter has seen those in range.
 use Prim.Native.Nat.{ℕ, _+_, _*_, _≤_, _<_, _-_}
 use mathlib.Core.Path.{_≡_, refl, sym, ap, _∙_, subst}
-use mathlib.Core.Bool.{Bool, true, false}
+use mathlib.Core.Bool.{Bool, false}
 use native.Mathlib.Nat.{add-zero}
 use native.Mathlib.Omega.{arith}
 use denote.Ref.{now}
 use borrow.Author.Count.{below-more}
 use borrow.Author.Needs.{needs}
-use Rattle.octets.proofs.Tests.{and-right}
 use Rattle.rules.specs.declared.circuit.Circuit.{Circuit}
-use Rattle.rules.specs.Valid.{partNumbered, repeated}
 use Rattle.rules.specs.Records.{circuitAt}
-use Rattle.references.specs.Filter.{inRange, repeatedIn, Seen}
+use Rattle.references.specs.Filter.{repeatedIn, Seen}
+use Rattle.references.proofs.Passes.{lowest-at, lowest-none}
 use Rattle.references.proofs.pass.Statement.{statement}
 use Rattle.references.proofs.pass.Tie as tie
 
@@ -22,24 +21,15 @@ abbrev μ-loop : tie.MeasureT-loop
 μ-loop t n from to w₀ i₀ w i = n - i
 
 -- what the note on part k said, of the part by its other number
-module _ (x : ℕ → Circuit) (from to : ℕ) {k m : ℕ} (e : k ≡ m) {b : Bool} (said : b ≡ repeatedIn from to x k) where
-  there : b ≡ true → repeated x m ≡ true
-  there t = ap (repeated x) (sym e) ∙ and-right (inRange from to (partNumbered x k .reference)) (repeated x k) (sym said ∙ t)
-
-  missed : b ≡ false → repeatedIn from to x m ≡ false
-  missed t = ap (repeatedIn from to x) (sym e) ∙ sym said ∙ t
+said : (x : ℕ → Circuit) (from to : ℕ) {k m : ℕ} → k ≡ m → {b c : Bool} → b ≡ repeatedIn from to x k → b ≡ c → repeatedIn from to x m ≡ c
+said x from to e s t = ap (repeatedIn from to x) (sym e) ∙ sym s ∙ t
 
 holder : tie.Need-returns Inv-loop μ-loop
 holder c =
     let at = c .before .before .before .before in
-    let start = at .before .before in
-    let a = start .args in
-    let counted = start .pre in
-    record {
-      most = omega arith;
-      before = at .loop .inv .1;
-      there = λ l. there (circuitAt (now (a .t))) (a .from) (a .to) (add-zero (2 * at .loop .i)) (c .before .note .ensures .0) (c .if1 .taken);
-    }
+    let a = at .before .before .args in
+    lowest-at (repeatedIn (a .from) (a .to) (circuitAt (now (a .t)))) (2 * a .n) (2 * at .loop .i) (omega arith) (at .loop .inv .1)
+    (said (circuitAt (now (a .t))) (a .from) (a .to) (add-zero (2 * at .loop .i)) (c .before .note .ensures .0) (c .if1 .taken))
 
 -- the loop has passed the holder of circuit i too
 past-holder : (c : tie.Else1 Inv-loop μ-loop) → let at = c .before .before .before .before in let a = at .before .before .args in
@@ -47,18 +37,14 @@ past-holder : (c : tie.Else1 Inv-loop μ-loop) → let at = c .before .before .b
 past-holder c =
     let at = c .before .before .before .before in
     let a = at .before .before .args in
-    below-more _ _ (at .loop .inv .1) (missed (circuitAt (now (a .t))) (a .from) (a .to) (add-zero (2 * at .loop .i)) (c .before .note .ensures .0) (c .if1 .left))
+    below-more _ _ (at .loop .inv .1) (said (circuitAt (now (a .t))) (a .from) (a .to) (add-zero (2 * at .loop .i)) (c .before .note .ensures .0) (c .if1 .left))
 
 reservation : tie.Need-returns-2 Inv-loop μ-loop
 reservation c =
     let at = c .before .before .before .before .before .before .before in
-    let start = at .before .before in
-    let a = start .args in
-    record {
-      most = omega arith;
-      before = past-holder (c .before .before .before);
-      there = λ l. there (circuitAt (now (a .t))) (a .from) (a .to) refl (c .before .note2 .ensures .0) (c .if2 .taken);
-    }
+    let a = at .before .before .args in
+    lowest-at (repeatedIn (a .from) (a .to) (circuitAt (now (a .t)))) (2 * a .n) (2 * at .loop .i + 1) (omega arith)
+    (past-holder (c .before .before .before)) (sym (c .before .note2 .ensures .0) ∙ c .if2 .taken)
 
 again : tie.Need-loop-again Inv-loop μ-loop
 again c =
@@ -73,11 +59,8 @@ again c =
 
 none : tie.Need-returns-3 Inv-loop μ-loop
 none c =
-    record {
-      most = omega arith;
-      before = λ j l. c .before .loop .inv .1 j (omega arith);
-      there = λ l. absurd (omega arith);
-    }
+    let a = c .before .before .before .args in
+    lowest-none (repeatedIn (a .from) (a .to) (circuitAt (now (a .t)))) (2 * a .n) (λ j l. c .before .loop .inv .1 j (omega arith))
 
 pub pass-spec : {M : Type 1} → statement M
 pass-spec =
