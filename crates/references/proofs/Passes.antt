@@ -35,7 +35,7 @@ stem-below : (r : List ℕ) → stem r < stems
 unfolding stem
 stem-below r = omega arith
 
--- of the first m parts k is the lowest that is repeated and has a stem below `from`; where there is none, k is m
+-- part k of m is repeated, or k is m; and of the parts before it none that has a stem below `from` is repeated
 pub record Sifted (x : ℕ → Circuit) (m from k : ℕ) : Type 0 where
   pub most : k ≤ m
   pub before : (j : ℕ) → j < k → stem (partNumbered x j .reference) < from → repeated x j ≡ false
