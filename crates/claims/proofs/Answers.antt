@@ -1,5 +1,5 @@
 -- What is answered tells what becomes of each circuit.
-use Prim.Native.Nat.{ℕ, _<_}
+use Prim.Native.Nat.{ℕ, _<_, _≤_}
 use mathlib.Core.Path.{_≡_, refl, sym, ap, _∙_}
 use mathlib.Core.Bool.{Bool, true, false, cond, _||_}
 use mathlib.Core.List.{List}
@@ -14,6 +14,7 @@ use Rattle.rules.specs.declared.outcome.Outcome.{Outcome}
 use Rattle.rules.specs.declared.outcome.Outcome.the-variants.{Refuse, Do, Clock}
 use Rattle.rules.specs.Circuit.{overdue, made}
 use Rattle.rules.specs.Numbers.{refusalNumber}
+use Rattle.rules.specs.Numbers as number
 use Rattle.rules.specs.Answer.{becomes, refusalDetail, anothers, answerOf}
 use Rattle.rules.specs.Layout.{Layout}
 use Rattle.rules.specs.Valid.{valid}
@@ -24,8 +25,8 @@ use Rattle.rules.proofs.Kept.{view-after}
 use Rattle.claims.specs.History.{named, afterAnswer}
 
 module _ (e : Event) (i c : ℕ) (y : Circuit) where
-  -- an answer above 7 tells of no change
-  pub after-refusal : (k : ℕ) → 7 < k → afterAnswer e k i c y ≡ y
+  -- a refusal tells of no change
+  pub after-refusal : (k : ℕ) → number.wrongLength ≤ k → afterAnswer e k i c y ≡ y
   unfolding afterAnswer named
   after-refusal k h =
       ap (λ (b : Bool). cond b (cond (overdue (e .clock) y) (made e Cancel y) y) (cond (eqb i c) (named e k y) y)) (ne-eqb k 7 (omega arith))

@@ -24,7 +24,7 @@ use Rattle.rules.specs.Circuit.{isRoutine, outranks, sameMark}
 use Rattle.rules.specs.Choice.{heldBy, reservedBy, choice}
 use Rattle.rules.specs.Event.{wellFormed}
 use Rattle.rules.specs.Fields.{allowed}
-use Rattle.rules.specs.Decision.{chosen, onReservation, standsNowhere, blocked, setUp, lookAhead, release, cancel, decision}
+use Rattle.rules.specs.Decision.{chosen, onReservation, standsNowhere, blocked, setUp, lookAhead, onHolder, cancel, decision}
 use Rattle.rules.specs.Numbers.{reasonNumber, refusalNumber}
 use Rattle.rules.specs.Answer.{noDetail, refusalDetail}
 use Rattle.rules.specs.Valid.{verdict}
@@ -56,7 +56,7 @@ module _ (d : ℕ) where
 
   -- the rules refuse for no record
   by-rules : (x : ℕ → Circuit) (n : ℕ) (e : Event) → Detailed (decision x n e)
-  unfolding decision setUp onReservation lookAhead release cancel
+  unfolding decision setUp onReservation lookAhead onHolder cancel
   by-rules x n e =
       by-test Detailed (eqb (e .kind) 1) _ _ (λ k. set-up)
       (λ k.

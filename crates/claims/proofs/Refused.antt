@@ -122,7 +122,7 @@ refusal-answers t e place h =
     ∙ ap (λ (n : ℕ). refusalOctets n (refusedDetail t n)) (sym k)
 
 pub refusal-keeps-history : RefusalKeepsHistory
-refusal-keeps-history p c y h = after-refusal (eventAt (p .event)) (answerDetail (p .answer)) c y (answerNumber (p .answer)) (omega arith)
+refusal-keeps-history p c y h = after-refusal (eventAt (p .event)) (answerDetail (p .answer)) c y (answerNumber (p .answer)) h
 
 -- ---- a list
 pub refused-list : RefusedList

@@ -155,7 +155,7 @@ module _ (t : List ℕ) (v : valid records t ≡ true) (x : ℕ → Circuit) (q 
         otherwise = λ g. absurd (g want);
       }
     where
-      high : ForWant (p .answer) → 7 < answerNumber (p .answer)
+      high : ForWant (p .answer) → 20 ≤ answerNumber (p .answer)
       high (inl z) = omega arith
       high (inr z) = omega arith
 

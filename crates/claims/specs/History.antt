@@ -7,7 +7,7 @@ use lib.Dec.{eqb, leb}
 use Rattle.rules.specs.declared.part.Part.{Part}
 use Rattle.rules.specs.declared.circuit.Circuit.{Circuit}
 use Rattle.rules.specs.declared.event.Event.{Event}
-use Rattle.rules.specs.Circuit.{nobody}
+use Rattle.rules.specs.Circuit.{nobody, withHolder, withReservation, unreserved}
 use Rattle.rules.specs.Numbers as number
 use Rattle.rules.specs.Records.{eventAt, answerNumber, answerDetail}
 
@@ -22,18 +22,15 @@ asked p = eventAt (p .event)
 abbrev pub caller : Event → Part  -- the event's call as it stands in a part: present, under the event's mark, by its reference
 caller e = record { present = true; mark = e .mark; reference = e .reference }
 
-abbrev pub unreserved : Circuit → Circuit  -- the circuit with nobody's reservation, and with its holder
-unreserved y = record { holder = y .holder; reservation = nobody; clock = 0 }
-
 -- what event e, answered by number k, makes of the circuit y that the answer names
 unfoldable pub named : Event → ℕ → Circuit → Circuit
 named e k y =
     -- 1 / 2 seized: the call holds the circuit, with no reservation
-    cond (eqb k number.seized || eqb k number.seizedWithLoss) (record { holder = caller e; reservation = nobody; clock = 0 })
+    cond (eqb k number.seized || eqb k number.seizedWithLoss) (withHolder (caller e) (unreserved y))
     -- 3 / 4 reserved: the call has reserved the circuit since the event's clock, and a holder stays
-    (cond (eqb k number.reserved || eqb k number.reservedWithLoss) (record { holder = y .holder; reservation = caller e; clock = e .clock })
+    (cond (eqb k number.reserved || eqb k number.reservedWithLoss) (withReservation (caller e) (e .clock) y)
     -- 5 released: nobody holds the circuit, and a reservation stays
-    (cond (eqb k number.released) (record { holder = nobody; reservation = y .reservation; clock = y .clock })
+    (cond (eqb k number.released) (withHolder nobody y)
     -- 6 cancelled: nobody has reserved the circuit, and a holder stays
     (cond (eqb k number.cancelled) (unreserved y) y)))
 

@@ -14,7 +14,7 @@ ghost use mathlib.Core.Path.{_≡_};
 ghost use mathlib.Core.Bool.{true, false, not, _||_};
 ghost use Prim.Native.Nat.{_≤_, _<_};
 ghost use Rattle.rules.specs.Circuit.{outranks};
-ghost use Rattle.rules.specs.Decision.{onReservation, blocked, setUp, standsNowhere, lookAhead, release, cancel};
+ghost use Rattle.rules.specs.Decision.{onReservation, blocked, setUp, standsNowhere, lookAhead, onHolder, cancel};
 ghost use Rattle.rules.specs.Choice.{reservedBy};
 ghost use Rattle.rules.specs.Decision as rule;
 ghost use Rattle.rules.specs.Valid as table;
@@ -124,13 +124,13 @@ fn look_ahead(t: &[u8], e: Event) -> Outcome
     }
 }
 
-// Decides a release.
-fn release(t: &[u8], e: Event) -> Outcome
-    ensures { λ r. ⌜ r ≡ release (circuitAt (now (t .entry))) (circuits (now (t .entry))) e ⌝ }
+// Decides an event that does an act on the circuit that its call holds.
+fn on_holder(t: &[u8], e: Event, a: Act) -> Outcome
+    ensures { λ r. ⌜ r ≡ onHolder (circuitAt (now (t .entry))) (circuits (now (t .entry))) a e ⌝ }
 {
     let reference = e.reference;
     match choice::held_by(t, reference) {
-        Found::At(i) => Outcome::Do(Act::Release, i),
+        Found::At(i) => Outcome::Do(a, i),
         Found::Nothing => Outcome::Refuse(Refusal::NotThere),
     }
 }
@@ -153,7 +153,7 @@ fn decision(t: &[u8], e: Event) -> Outcome
     let kind = e.kind;
     match kind {
         1 => set_up(t, e),
-        2 => release(t, e),
+        2 => on_holder(t, e, Act::Release),
         3 => look_ahead(t, e),
         4 => cancel(t, e),
         _ => Outcome::Clock,

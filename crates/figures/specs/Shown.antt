@@ -6,7 +6,7 @@ use Rattle.rules.specs.Fields.{decimal, parameterOk, pointCodeOk}
 use Rattle.rules.specs.Circuit.{takeable, worth, rank}
 use Rattle.rules.specs.Choice.{heldBy, reservedBy, choice}
 use Rattle.rules.specs.Event.{wellFormed}
-use Rattle.rules.specs.Decision.{onReservation, setUp, lookAhead, release, cancel, decision}
+use Rattle.rules.specs.Decision.{onReservation, setUp, lookAhead, onHolder, cancel, decision}
 use Rattle.rules.specs.Answer.{answerOf}
 use Rattle.rules.specs.Valid.{levelsOk, fieldsOk, pairOk, repeated, recordVerdict, verdict, valid}
 use Rattle.rules.specs.Run.{outcomeOf, effect, after, answered}
@@ -42,7 +42,7 @@ listed =
 
 pub shown : output (record { table = emptyTable 2; input = flatten paper.listing } ∷ []) ≡ listed
 unfolding flatten immediate priority event setsUp releases looksAhead ticks paper.listing answered after effect
-    outcomeOf decision setUp lookAhead release cancel onReservation choice heldBy reservedBy rank worth takeable answerOf valid
+    outcomeOf decision setUp lookAhead onHolder cancel onReservation choice heldBy reservedBy rank worth takeable answerOf valid
     verdict recordVerdict repeated levelsOk fieldsOk pairOk decimal pointCodeOk wellFormed parameterOk records putCircuit flagsAt
     blankAt checked tableLength eventsIn adds holders decimalIn sums answer row rows figuresText output
 shown = refl

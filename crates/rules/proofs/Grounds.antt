@@ -10,6 +10,7 @@ use Rattle.rules.specs.declared.circuit.Circuit.{Circuit}
 use Rattle.rules.specs.declared.event.Event.{Event}
 use Rattle.rules.specs.declared.search.Found.{Found}
 use Rattle.rules.specs.declared.search.Found.the-variants.{At, Nothing}
+use Rattle.rules.specs.declared.outcome.Act.{Act}
 use Rattle.rules.specs.declared.outcome.Act.the-variants.{Seize, Reserve, Release, Cancel}
 use Rattle.rules.specs.declared.outcome.Refusal.the-variants.{Malformed, NotAllowed, ByRoutine, AlreadyThere, MarkDiffers, HolderNotLower, NotThere, NoCircuitToReserve}
 use Rattle.rules.specs.declared.outcome.Outcome.{Outcome}
@@ -19,7 +20,7 @@ use Rattle.rules.specs.Search.{found}
 use Rattle.rules.specs.Circuit.{isRoutine, outranks, sameMark, isOf, free, takeable}
 use Rattle.rules.specs.Choice.{heldBy, reservedBy, choice}
 use Rattle.rules.specs.Event.{marked, wellFormed}
-use Rattle.rules.specs.Decision.{standsNowhere, onReservation, blocked, setUp, lookAhead, release, cancel, decision}
+use Rattle.rules.specs.Decision.{standsNowhere, onReservation, blocked, setUp, lookAhead, onHolder, cancel, decision}
 use Rattle.rules.specs.Layout.{Layout}
 use Rattle.rules.specs.Valid.{verdict}
 use Rattle.rules.specs.Run.{outcomeOf}
@@ -62,8 +63,8 @@ module _ (x : ℕ → Circuit) (n : ℕ) (e : Event) where
     pub there : i < n
     pub given : Open i × Nowhere
 
-  -- an event of kind k empties the part of circuit i in which its call stands
-  pub record Empties (k : ℕ) (stands : ℕ → Bool) (i : ℕ) : Type 0 where
+  -- an event of kind k acts on circuit i, on which its call stands
+  pub record OnOwn (k : ℕ) (stands : ℕ → Bool) (i : ℕ) : Type 0 where
     pub kind : e .kind ≡ k
     pub there : i < n
     pub own : stands i ≡ true
@@ -72,8 +73,8 @@ module _ (x : ℕ → Circuit) (n : ℕ) (e : Event) where
   Grounds (Refuse r) = Unit {0}
   Grounds (Do Seize i) = Seizes i
   Grounds (Do Reserve i) = Reserves i
-  Grounds (Do Release i) = Empties 2 Held i
-  Grounds (Do Cancel i) = Empties 4 Reserved i
+  Grounds (Do Release i) = OnOwn 2 Held i
+  Grounds (Do Cancel i) = OnOwn 4 Reserved i
   Grounds Clock = e .kind ≡ 5
 
   by-choice : (y : ℕ → Outcome) (z : Outcome) → ((i : ℕ) → i < n → Open i → Grounds (y i)) → Grounds z → Grounds (found (choice x n (e .mark)) y z)
@@ -114,12 +115,15 @@ module _ (x : ℕ → Circuit) (n : ℕ) (e : Event) where
       (λ q. tt))
       (λ q. tt)
 
+  by-holder : (k : ℕ) (a : Act) → ((i : ℕ) → OnOwn k Held i → Grounds (Do a i)) → e .kind ≡ k → Grounds (onHolder x n a e)
+  unfolding onHolder heldBy
+  by-holder k a g q = by-first Grounds Held n (Do a) (Refuse NotThere) (λ i l h. g i (record { kind = q; there = l; own = h })) (λ b. tt)
+
   pub grounds : wellFormed e ≡ true → Grounds (decision x n e)
-  unfolding wellFormed decision release cancel heldBy reservedBy
+  unfolding wellFormed decision cancel reservedBy
   grounds =
       by-kind Grounds (eqb (e .kind) 1) (marked e) _ (setUp x n e) _ (λ k m. by-set-up (eqb-true (e .kind) 1 k) m)
-      (by-kind Grounds (eqb (e .kind) 2) (e .parameterless) _ (release x n e) _
-      (λ k m. by-first Grounds Held n (Do Release) (Refuse NotThere) (λ i l h. record { kind = eqb-true (e .kind) 2 k; there = l; own = h }) (λ a. tt))
+      (by-kind Grounds (eqb (e .kind) 2) (e .parameterless) _ (onHolder x n Release e) _ (λ k m. by-holder 2 Release (λ i g. g) (eqb-true (e .kind) 2 k))
       (by-kind Grounds (eqb (e .kind) 3) (marked e) _ (lookAhead x n e) _ (λ k m. by-look-ahead (eqb-true (e .kind) 3 k) m)
       (by-kind Grounds (eqb (e .kind) 4) (e .parameterless) _ (cancel x n e) Clock
       (λ k m. by-first Grounds Reserved n (Do Cancel) (Refuse NotThere) (λ i l h. record { kind = eqb-true (e .kind) 4 k; there = l; own = h }) (λ b. tt))

@@ -7,7 +7,7 @@ use Rattle.rules.specs.Fields.{decimal, parameterOk, pointCodeOk}
 use Rattle.rules.specs.Circuit.{takeable, worth, rank}
 use Rattle.rules.specs.Choice.{heldBy, reservedBy, choice}
 use Rattle.rules.specs.Event.{wellFormed}
-use Rattle.rules.specs.Decision.{onReservation, setUp, lookAhead, release, cancel, decision}
+use Rattle.rules.specs.Decision.{onReservation, setUp, lookAhead, onHolder, cancel, decision}
 use Rattle.rules.specs.Answer.{answerOf}
 use Rattle.rules.specs.Valid.{levelsOk, fieldsOk, pairOk, repeated, recordVerdict, verdict, valid}
 use Rattle.rules.specs.Run.{outcomeOf, effect, after, answered}
@@ -38,7 +38,7 @@ expected =
 
 pub counted : figuresTotals (emptyTable 2) (flatten paper.listing) (replicate 144 0) (replicate place.figures 0) ≡ expected
 unfolding flatten immediate priority event setsUp releases looksAhead ticks paper.listing answered after effect outcomeOf decision setUp
-    lookAhead release cancel onReservation choice heldBy reservedBy rank worth takeable answerOf valid verdict recordVerdict repeated
+    lookAhead onHolder cancel onReservation choice heldBy reservedBy rank worth takeable answerOf valid verdict recordVerdict repeated
     levelsOk fieldsOk pairOk decimal pointCodeOk wellFormed parameterOk records putCircuit flagsAt blankAt tableLength listLength
     eventsIn listLengths adds holders listAdds hasRoom figuresLengths isAdded figuresTotals
 counted = refl

@@ -13,7 +13,7 @@ returns c =
 returns-2 : tie.Need-returns-2
 unfolding decision
 returns-2 c =
-    simp (c .before .match .keys2) (c .release .ensures)
+    simp (c .before .match .keys2) (c .on-holder .ensures)
 
 returns-3 : tie.Need-returns-3
 unfolding decision

@@ -1,22 +1,22 @@
 -- By what the search for the call found.
-use Rattle.rules.specs.Decision.{release}
+use Rattle.rules.specs.Decision.{onHolder}
 use Rattle.decision.proofs.Findings.{at, none}
 use borrow.Author.Needs.{needs}
-use Rattle.decision.proofs.release.Statement.{statement}
-use Rattle.decision.proofs.release.Tie as tie
+use Rattle.decision.proofs.on_holder.Statement.{statement}
+use Rattle.decision.proofs.on_holder.Tie as tie
 
 returns : tie.Need-returns
-unfolding release
+unfolding onHolder
 returns c =
     at _ _ (c .before .i .given .1) (c .before .before .before .held-by .ensures)
 
 returns-2 : tie.Need-returns-2
-unfolding release
+unfolding onHolder
 returns-2 c =
     none _ _ (c .enum-told .given .1) (c .before .before .held-by .ensures)
 
-pub release-spec : {M : Type 1} → statement M
-release-spec =
+pub on-holder-spec : {M : Type 1} → statement M
+on-holder-spec =
     tie.close
     (tie.spec
     (λ c κs. search needs)
