@@ -86,6 +86,13 @@ fn acted(e: Event, a: Act, i: u16, c: Circuit) -> Answer
         ),
         Act::Release => no_loser(number::RELEASED, i),
         Act::Cancel => no_loser(number::CANCELLED, i),
+        Act::Unmark => losers(
+            number::UNMARKED,
+            number::UNMARKED,
+            i,
+            Part::nobody(),
+            c.reservation,
+        ),
     }
 }
 

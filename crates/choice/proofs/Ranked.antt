@@ -13,7 +13,7 @@ use Rattle.rules.specs.declared.level.Level.{Level}
 use Rattle.rules.specs.declared.mark.Mark.{Mark}
 use Rattle.rules.specs.declared.circuit.Circuit.{Circuit}
 use Rattle.rules.specs.declared.standing.Standing.{Standing}
-use Rattle.rules.specs.Circuit.{outranks, standing, free, takeable, worth, rank}
+use Rattle.rules.specs.Circuit.{outranks, standing, free, preemptable, takeable, worth, rank}
 use Rattle.rules.specs.Standing.{standingOf}
 use Rattle.rules.proofs.Choice.{rank-taken, rank-not}
 use Rattle.choice.specs.Best.{above}
@@ -37,9 +37,9 @@ unfolding worth
 worth-read c p q e = e ∙ ap₂ (λ (l : Level) (held : Bool). 1 + 2 * l .0 + cond held 0 1) p q
 
 module _ (m : Mark) (c : Circuit) where
-  pub takeable-read : {r : Bool} {s : Standing} → s ≡ standingOf c → r ≡ not (not (s .held) && not (s .reserved)) && outranks m (s .mark) → r ≡ takeable m c
+  pub takeable-read : {r : Bool} {s : Standing} → s ≡ standingOf c → r ≡ not (not (s .held) && not (s .reserved)) && (s .preemptable && outranks m (s .mark)) → r ≡ takeable m c
   unfolding takeable
-  takeable-read p e = e ∙ ap (λ (s : Standing). not (not (s .held) && not (s .reserved)) && outranks m (s .mark)) p
+  takeable-read p e = e ∙ ap (λ (s : Standing). not (not (s .held) && not (s .reserved)) && (s .preemptable && outranks m (s .mark))) p
 
   -- ---- a takeable circuit that is worth more has a rank above the top, and no other
   module _ (top : ℕ) where
@@ -55,7 +55,8 @@ module _ (m : Mark) (c : Circuit) where
     pub not-lower : ltb (m .level .0) (standing c .level .0) ≡ false → 0 ≡ above top (rank m c)
     unfolding takeable
     not-lower h =
-        not-taken (sym (second-off (not (free c)) (outranks m (standing c)) (sym (second-off (same (m .domain) (standing c .domain)) (ltb (m .level .0) (standing c .level .0)) h))))
+        not-taken
+        (sym (second-off (not (free c)) (preemptable c && outranks m (standing c)) (sym (second-off (preemptable c) (outranks m (standing c)) (sym (second-off (same (m .domain) (standing c .domain)) (ltb (m .level .0) (standing c .level .0)) h))))))
 
     pub not-worth : worth c ≤ top → 0 ≡ above top (rank m c)
     not-worth l = stays (by-so (takeable m c) (λ t. let r = rank-taken m c t in omega arith) (λ t. let r = rank-not m c t in omega arith))
@@ -65,7 +66,7 @@ module _ (m : Mark) (c : Circuit) where
   unfolding rank worth takeable
   rank-not-one =
       by-test (λ (n : ℕ). n ≢ 1) (takeable m c) (worth c) 0
-      (λ t e. let l = ltb-true (m .level .0) (standing c .level .0) (and-right (same (m .domain) (standing c .domain)) _ (and-right (not (free c)) (outranks m (standing c)) t)) in omega arith)
+      (λ t e. let l = ltb-true (m .level .0) (standing c .level .0) (and-right (same (m .domain) (standing c .domain)) _ (and-right (preemptable c) (outranks m (standing c)) (and-right (not (free c)) _ t))) in omega arith)
       (λ t e. omega arith)
 
   -- of a circuit at which a glance gave `here`

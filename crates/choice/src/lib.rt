@@ -17,7 +17,8 @@ ghost use Rattle.choice.specs.Best.{above, improved, foundIn};
 const FREE: usize = 1;
 
 // Gives the rank of circuit i, which is not free, for a call with this mark if it is above `top`, else 0. The cheapest test goes first: the
-// level of the part that stands, then its worth, and its domain, which is five octets, only where the circuit would be better.
+// level of the part that stands, then its worth; whether the circuit is preemptable, and the domain, which is five octets, are asked only
+// where the circuit would be better.
 fn weighed(t: &[u8], by: Mark, i: usize, top: usize) -> usize
     requires { ⌜ i < circuits (now t) ⌝ }
     ensures { λ r. ⌜ r ≡ above top (rank by (circuitAt (now (t .entry)) i)) ⌝ }

@@ -156,6 +156,7 @@ fn decision(t: &[u8], e: Event) -> Outcome
         2 => on_holder(t, e, Act::Release),
         3 => look_ahead(t, e),
         4 => cancel(t, e),
+        6 => on_holder(t, e, Act::Unmark),
         _ => Outcome::Clock,
     }
 }

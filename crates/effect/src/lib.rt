@@ -20,7 +20,8 @@ fn renew(t: &mut [u8], e: Event, a: Act, i: usize)
     table::store(t, i, c.made(e, a));
 }
 
-// Carries out an act on circuit i, whose record is in order: a set-up writes the circuit whole, any other act only the part it changes.
+// Carries out an act on circuit i, whose record is in order: an act that changes both parts writes the circuit whole, any
+// other only the part that it changes.
 fn act(t: &mut [u8], e: Event, a: Act, i: usize)
     requires { ⌜ Ready (now t) (Outcome.Do a i) ⌝ }
     ensures { λ _. ⌜ now (t .exit) ≡ putCircuit (now (t .entry)) i (made e a (circuitAt (now (t .entry)) i)) ⌝ }
@@ -31,6 +32,7 @@ fn act(t: &mut [u8], e: Event, a: Act, i: usize)
         Act::Reserve => table::store_reservation(t, i, c.reservation, c.clock),
         Act::Release => table::store_holder(t, i, c.holder),
         Act::Cancel => table::store_reservation(t, i, c.reservation, c.clock),
+        Act::Unmark => table::store(t, i, c),
     }
 }
 

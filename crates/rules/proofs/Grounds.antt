@@ -11,7 +11,7 @@ use Rattle.rules.specs.declared.event.Event.{Event}
 use Rattle.rules.specs.declared.search.Found.{Found}
 use Rattle.rules.specs.declared.search.Found.the-variants.{At, Nothing}
 use Rattle.rules.specs.declared.outcome.Act.{Act}
-use Rattle.rules.specs.declared.outcome.Act.the-variants.{Seize, Reserve, Release, Cancel}
+use Rattle.rules.specs.declared.outcome.Act.the-variants.{Seize, Reserve, Release, Cancel, Unmark}
 use Rattle.rules.specs.declared.outcome.Refusal.the-variants.{Malformed, NotAllowed, ByRoutine, AlreadyThere, MarkDiffers, HolderNotLower, NotThere, NoCircuitToReserve}
 use Rattle.rules.specs.declared.outcome.Outcome.{Outcome}
 use Rattle.rules.specs.declared.outcome.Outcome.the-variants.{Refuse, Do, Clock}
@@ -75,6 +75,7 @@ module _ (x : ℕ → Circuit) (n : ℕ) (e : Event) where
   Grounds (Do Reserve i) = Reserves i
   Grounds (Do Release i) = OnOwn 2 Held i
   Grounds (Do Cancel i) = OnOwn 4 Reserved i
+  Grounds (Do Unmark i) = OnOwn 6 Held i
   Grounds Clock = e .kind ≡ 5
 
   by-choice : (y : ℕ → Outcome) (z : Outcome) → ((i : ℕ) → i < n → Open i → Grounds (y i)) → Grounds z → Grounds (found (choice x n (e .mark)) y z)
@@ -125,9 +126,10 @@ module _ (x : ℕ → Circuit) (n : ℕ) (e : Event) where
       by-kind Grounds (eqb (e .kind) 1) (marked e) _ (setUp x n e) _ (λ k m. by-set-up (eqb-true (e .kind) 1 k) m)
       (by-kind Grounds (eqb (e .kind) 2) (e .parameterless) _ (onHolder x n Release e) _ (λ k m. by-holder 2 Release (λ i g. g) (eqb-true (e .kind) 2 k))
       (by-kind Grounds (eqb (e .kind) 3) (marked e) _ (lookAhead x n e) _ (λ k m. by-look-ahead (eqb-true (e .kind) 3 k) m)
-      (by-kind Grounds (eqb (e .kind) 4) (e .parameterless) _ (cancel x n e) Clock
+      (by-kind Grounds (eqb (e .kind) 4) (e .parameterless) _ (cancel x n e) _
       (λ k m. by-first Grounds Reserved n (Do Cancel) (Refuse NotThere) (λ i l h. record { kind = eqb-true (e .kind) 4 k; there = l; own = h }) (λ b. tt))
-      (λ w. by-so (eqb (e .kind) 5) (eqb-true (e .kind) 5) (λ k. absurd (true≢false (sym w ∙ ap (λ (b : Bool). cond b (e .parameterless && e .referenceless) false) k)))))))
+      (by-kind Grounds (eqb (e .kind) 6) (e .parameterless) _ (onHolder x n Unmark e) Clock (λ k m. by-holder 6 Unmark (λ i g. g) (eqb-true (e .kind) 6 k))
+      (λ w. by-so (eqb (e .kind) 5) (eqb-true (e .kind) 5) (λ k. absurd (true≢false (sym w ∙ ap (λ (b : Bool). cond b (e .parameterless && e .referenceless) false) k))))))))
 
 pub decided : {S : Type 0} (L : Layout S) (s : S) (e : Event) → Grounds (L .view s) (L .count s) e (outcomeOf L s e)
 unfolding outcomeOf

@@ -17,6 +17,8 @@ pub const CANCELLED: u8 = 6;
 
 pub const CLOCK_TAKEN: u8 = 7;
 
+pub const UNMARKED: u8 = 8;
+
 pub const WRONG_LENGTH: u8 = 20;
 
 pub const MALFORMED: u8 = 22;

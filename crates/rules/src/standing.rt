@@ -1,14 +1,17 @@
-// The standing of a circuit is all that the choice asks of it: whether it is held, whether it is reserved, and the mark that stands.
+// The standing of a circuit is all that the choice asks of it: whether it is held, whether it is reserved, whether its holder may lose it,
+// and the mark that stands.
 use crate::level::Level;
 use crate::mark::Mark;
 ghost use mathlib.Core.Path.{_≡_};
-ghost use mathlib.Core.Bool.{_&&_, not, cond};
+ghost use mathlib.Core.Bool.{_&&_, _||_, not, cond};
 ghost use Prim.Native.Nat.{_+_, _*_, _<_};
+ghost use Rattle.rules.specs.Fields.{levelOk};
 ghost use Rattle.rules.specs.Circuit.{outranks};
 
 pub struct Standing {
     pub held: bool,
     pub reserved: bool,
+    pub preemptable: bool,
     pub mark: Mark,
 }
 
@@ -24,6 +27,13 @@ impl Standing {
         ensures { λ r. ⌜ r ≡ not held && not reserved ⌝ }
     {
         if held { false } else { !reserved }
+    }
+
+    // Tells whether a circuit may be lost by its holder, who stands under this level, if it is held: one under no precedence keeps it.
+    pub fn preemptable(held: bool, level: Level) -> bool
+        ensures { λ r. ⌜ r ≡ not held || levelOk (level .0) ⌝ }
+    {
+        if held { level.known() } else { true }
     }
 
     // Says how gladly a call takes a circuit under this level, if it is takeable: the level number counts first, then that there is no holder.
@@ -42,12 +52,15 @@ impl Standing {
     }
 
     pub fn takeable(self, by: Mark) -> bool
-        ensures { λ r. ⌜ r ≡ not (not (self .held) && not (self .reserved)) && outranks by (self .mark) ⌝ }
+        ensures { λ r. ⌜ r ≡ not (not (self .held) && not (self .reserved)) && (self .preemptable && outranks by (self .mark)) ⌝ }
     {
         if Standing::free(self.held, self.reserved) {
-            false
-        } else {
+            return false;
+        }
+        if self.preemptable {
             by.outranks(self.standing())
+        } else {
+            false
         }
     }
 }

@@ -14,7 +14,7 @@ ghost use lib.ListN.{length};
 ghost use mathlib.Core.List.{_++_};
 ghost use Rattle.octets.specs.Number.{octets};
 ghost use Rattle.octets.specs.Span.{put, zeros};
-ghost use Rattle.rules.specs.Circuit.{isOf, free, standing, overdue};
+ghost use Rattle.rules.specs.Circuit.{isOf, free, preemptable, standing, overdue};
 ghost use Rattle.rules.specs.Standing.{standingOf};
 ghost use Rattle.rules.specs.Valid.{partNumbered};
 ghost use Rattle.rules.specs.Records.{circuitSize, circuits, partAt, circuitAt, holderOctets, reservationOctets, spareOctets, partOctets, putCircuit, flagsAt, blankAt, tableLength};
@@ -128,6 +128,15 @@ pub fn free_at(t: &[u8], i: usize) -> bool
     Standing::free(held_at(t, i), reserved_at(t, i))
 }
 
+// Tells whether circuit i may be lost by its holder, if it is held, by its flag and the holder's level.
+fn preemptable_at(t: &[u8], i: usize) -> bool
+    requires { ⌜ i < circuits (now t) ⌝ }
+    ensures { λ r. ⌜ r ≡ preemptable (circuitAt (now (t .entry)) i) ⌝ }
+{
+    let level = Level::in_record(t[CIRCUIT_SIZE * i + LEVEL]);
+    Standing::preemptable(held_at(t, i), level)
+}
+
 // Gives the octet from which on the part of circuit i stands whose mark is the standing one: the reservation's if there is one, else the
 // holder's.
 fn standing_part(t: &[u8], i: usize) -> usize
@@ -151,17 +160,19 @@ pub fn level_at(t: &[u8], i: usize) -> Level
     Level::in_record(t[o + LEVEL])
 }
 
-// Reads the standing of circuit i: its two flags, and of its two marks the one that stands.
+// Reads the standing of circuit i: its two flags, whether its holder may lose it, and of its two marks the one that stands.
 pub fn standing_at(t: &[u8], i: usize) -> Standing
     requires { ⌜ i < circuits (now t) ⌝ }
     ensures { λ r. ⌜ r ≡ standingOf (circuitAt (now (t .entry)) i) ⌝ }
 {
     let held = held_at(t, i);
     let reserved = reserved_at(t, i);
+    let preemptable = preemptable_at(t, i);
     let mark = mark_at(t, standing_part(t, i));
     Standing {
         held,
         reserved,
+        preemptable,
         mark,
     }
 }

@@ -10,23 +10,24 @@ use borrow.Author.Tests.{eqb-true, le-leb}
 use Rattle.octets.specs.Span.{span, zeros}
 use Rattle.octets.proofs.Tests.{and-left, and-right, and-both, halves, by-so, not-so}
 use Rattle.octets.proofs.Spans.{agree-first, zeros-agree}
-use Rattle.rules.specs.Fields.{levelOk, decimal, pointCodeOk}
-use Rattle.rules.specs.Valid.{ifPresent, levelsOk, fieldsOk, pairOk, isValid, recordVerdict}
+use Rattle.rules.specs.Valid.{ifPresent, heldUnder, reservedUnder, levelsOk, fieldsOk, pairOk, isValid, recordVerdict}
+use Rattle.rules.specs.declared.mark.Mark.{Mark}
 use Rattle.rules.specs.declared.part.Part.{Part}
 use Rattle.rules.specs.declared.circuit.Circuit.{Circuit}
 use Rattle.rules.specs.Records.{circuitSize, partAt, circuitAt, reservationOctets, flagsAt, zeroIfAbsent, blankAt, records}
 use Rattle.rules.proofs.Faults.{record-valid, record-facts}
-use Rattle.validity.specs.Order.{fit, partInOrder, inOrder, outOfOrder}
+use Rattle.validity.specs.Order.{fieldsFit, fit, partInOrder, inOrder, outOfOrder}
 
-module _ (t : List ℕ) (o w : ℕ) where
+-- f says under which marks the part may stand
+module _ (f : Mark → Bool) (t : List ℕ) (o w : ℕ) where
   abbrev part : Part  -- the part of w octets from octet o on
   part = partAt t o
 
   abbrev levels : Bool
-  levels = levelOk (part .mark .level .0)
+  levels = f (part .mark)
 
   abbrev fields : Bool
-  fields = decimal (part .mark .domain) && pointCodeOk (part .reference)
+  fields = fieldsFit part
 
   abbrev zero : Bool
   zero = zeros (span t o w)
@@ -36,7 +37,7 @@ module _ (t : List ℕ) (o w : ℕ) where
       (leb (getD t o 0) 1 ≡ true) × (ifPresent part levels ≡ true) × (ifPresent part fields ≡ true) × (zeroIfAbsent part (span t o w) ≡ true)
 
   -- each test, by the flag
-  quick : {b : Bool} → part .present ≡ b → partInOrder part (span t o w) ≡ cond b (levels && fields) zero
+  quick : {b : Bool} → part .present ≡ b → partInOrder f part (span t o w) ≡ cond b (levels && fields) zero
   quick e = ap (λ (b : Bool). cond b (levels && fields) zero) e
 
   if-there : (x : Bool) {b : Bool} → part .present ≡ b → ifPresent part x ≡ not b || x
@@ -45,7 +46,7 @@ module _ (t : List ℕ) (o w : ℕ) where
   if-absent : {b : Bool} → part .present ≡ b → zeroIfAbsent part (span t o w) ≡ cond b true zero
   if-absent e = ap (λ (b : Bool). cond b true zero) e
 
-  apart : 0 < w → partInOrder part (span t o w) ≡ true → Apart
+  apart : 0 < w → partInOrder f part (span t o w) ≡ true → Apart
   apart l h = by-so (part .present) here absent
     where
       here : part .present ≡ true → Apart
@@ -59,7 +60,7 @@ module _ (t : List ℕ) (o w : ℕ) where
           let none : getD t o 0 ≡ 0 = agree-first t o [] 0 w (zeros-agree t o w (sym (quick e) ∙ h)) l in
           (le-leb (getD t o 0) 1 (omega arith), if-there levels e, if-there fields e, if-absent e ∙ sym (quick e) ∙ h)
 
-  together : Apart → partInOrder part (span t o w) ≡ true
+  together : Apart → partInOrder f part (span t o w) ≡ true
   together h =
       by-so (part .present)
       (λ e. quick e ∙ and-both levels fields (sym (if-there levels e) ∙ h .1) (sym (if-there fields e) ∙ h .2))
@@ -77,7 +78,7 @@ beside false x y z h = simp (h refl, and-true)
 
 module _ (t : List ℕ) (i : ℕ) where
   -- the reservation's part is in order, and outranks its holder
-  both-parts : let c = circuitAt t i in let z = zeros (reservationOctets t i) in cond (c .reservation .present) (fit (c .reservation) && pairOk c) z ≡ partInOrder (c .reservation) (reservationOctets t i) && pairOk c
+  both-parts : let c = circuitAt t i in let z = zeros (reservationOctets t i) in cond (c .reservation .present) (fit reservedUnder (c .reservation) && pairOk c) z ≡ partInOrder reservedUnder (c .reservation) (reservationOctets t i) && pairOk c
   both-parts = beside _ _ _ _ (pair-absent (circuitAt t i))
 
   in-order-valid : inOrder t i ≡ true → isValid (recordVerdict records t i) ≡ true
@@ -86,8 +87,8 @@ module _ (t : List ℕ) (i : ℕ) where
       let first = halves h in
       let second = halves (first .1) in
       let last = halves (sym both-parts ∙ second .1) in
-      let a = apart t (circuitSize * i) 12 (omega arith) (first .0) in
-      let b = apart t (circuitSize * i + 12) 16 (omega arith) (last .0) in
+      let a = apart heldUnder t (circuitSize * i) 12 (omega arith) (first .0) in
+      let b = apart reservedUnder t (circuitSize * i + 12) 16 (omega arith) (last .0) in
       record-valid records t i
       ∙ and-both _ _ (and-both _ _ (and-both _ _ (a .0) (b .0)) (and-both _ _ (a .1) (b .1)))
       (and-both _ _ (and-both _ _ (a .2) (b .2)) (and-both _ _ (and-both _ _ (a .3) (and-both _ _ (b .3) (second .0))) (and-both _ _ (last .1) refl)))
@@ -101,9 +102,9 @@ module _ (t : List ℕ) (i : ℕ) where
       let fields = halves (f .2) in
       let blank = halves (f .3) in
       let rest = halves (blank .1) in
-      and-both _ _ (together t (circuitSize * i) 12 (flags .0, levels .0, fields .0, blank .0))
+      and-both _ _ (together heldUnder t (circuitSize * i) 12 (flags .0, levels .0, fields .0, blank .0))
       (and-both _ _ (rest .1)
-      (both-parts ∙ and-both _ _ (together t (circuitSize * i + 12) 16 (flags .1, levels .1, fields .1, rest .0)) (f .4)))
+      (both-parts ∙ and-both _ _ (together reservedUnder t (circuitSize * i + 12) 16 (flags .1, levels .1, fields .1, rest .0)) (f .4)))
 
   pub out-of-order : outOfOrder t i ≡ not (isValid (recordVerdict records t i))
   out-of-order =

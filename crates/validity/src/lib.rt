@@ -2,42 +2,68 @@
 // the reasons are gone through, in their order, only where that finds something.
 use rules::answer::NO_DETAIL;
 use rules::circuit::Circuit;
+use rules::mark::Mark;
 use rules::number;
 use rules::part::Part;
 use rules::part::Reference;
 use rules::search::Found;
+use rules::standing::Standing;
 use rules::verdict::Check;
 use rules::verdict::Reason;
 use rules::verdict::Verdict;
 ghost use mathlib.Core.Path.{_≡_};
 ghost use mathlib.Core.Bool.{_&&_};
 ghost use Prim.Native.Nat.{_+_, _*_, _^_, _<_};
-ghost use Rattle.rules.specs.Fields.{levelOk, decimal, pointCodeOk};
-ghost use Rattle.rules.specs.Valid.{ifPresent, levelsOk, fieldsOk, pairOk, recordVerdict, recordsTo, partsTo};
+ghost use Rattle.rules.specs.Fields.{pointCodeOk};
+ghost use Rattle.rules.specs.Valid.{ifPresent, heldUnder, reservedUnder, levelsOk, fieldsOk, pairOk, recordVerdict, recordsTo, partsTo};
 ghost use Rattle.rules.specs.Search.{firstTo};
 ghost use Rattle.rules.specs.Valid as rule;
 ghost use Rattle.rules.specs.Records.{circuitAt, circuits, flagsAt, records, checked, holderOctets};
-ghost use Rattle.validity.specs.Order.{partInOrder, inOrder, outOfOrder};
-ghost use Rattle.validity.specs.Order as order;
+ghost use Rattle.validity.specs.Order.{fieldsFit, fit, partInOrder, inOrder, outOfOrder};
 ghost use Rattle.validity.specs.Code.{reasonDigit, digitOf, codeOf, reasonOf, checkCoded};
 
-// Tells whether a part is absent, or its level is one of the five.
-fn level_ok(p: Part) -> bool
-    ensures { λ r. ⌜ r ≡ ifPresent p (levelOk (p .mark .level .0)) ⌝ }
+// Tells whether a holder may stand under this mark: its level is one of the five, or it is under no precedence.
+fn held_under(m: Mark) -> bool
+    ensures { λ r. ⌜ r ≡ heldUnder m ⌝ }
+{
+    if m.level.known() {
+        true
+    } else {
+        m.equals(Mark::no_precedence())
+    }
+}
+
+// Tells whether a reservation may stand under this mark: its level is one of the five.
+fn reserved_under(m: Mark) -> bool
+    ensures { λ r. ⌜ r ≡ reservedUnder m ⌝ }
+{
+    m.level.known()
+}
+
+// Tells whether a holder's part is absent, or its level is as it must be.
+fn holder_level_ok(p: Part) -> bool
+    ensures { λ r. ⌜ r ≡ ifPresent p (heldUnder (p .mark)) ⌝ }
+{
+    if p.present { held_under(p.mark) } else { true }
+}
+
+// Tells whether a reservation's part is absent, or its level is as it must be.
+fn reservation_level_ok(p: Part) -> bool
+    ensures { λ r. ⌜ r ≡ ifPresent p (reservedUnder (p .mark)) ⌝ }
 {
     if p.present {
-        p.mark.level.known()
+        reserved_under(p.mark)
     } else {
         true
     }
 }
 
-// Tells whether the level of each part that is present is one of the five.
+// Tells whether the level of each part that is present is as it must be.
 fn levels_ok(c: Circuit) -> bool
     ensures { λ r. ⌜ r ≡ levelsOk c ⌝ }
 {
-    if level_ok(c.holder) {
-        level_ok(c.reservation)
+    if holder_level_ok(c.holder) {
+        reservation_level_ok(c.reservation)
     } else {
         false
     }
@@ -50,19 +76,24 @@ fn point_code_ok(reference: Reference) -> bool
     reference[4] < 64
 }
 
-// Tells whether a part is absent, or its digits and the spare bits of its reference are right.
-fn part_ok(p: Part) -> bool
-    ensures { λ r. ⌜ r ≡ ifPresent p (decimal (p .mark .domain) && pointCodeOk (p .reference)) ⌝ }
+// Tells whether the digits of a part and the spare bits of its reference are right.
+fn fields_fit(p: Part) -> bool
+    ensures { λ r. ⌜ r ≡ fieldsFit p ⌝ }
 {
     let domain = p.mark.domain;
     let reference = p.reference;
-    if !p.present {
-        return true;
+    if rules::parameter::decimal(domain) {
+        point_code_ok(reference)
+    } else {
+        false
     }
-    if !rules::parameter::decimal(domain) {
-        return false;
-    }
-    point_code_ok(reference)
+}
+
+// Tells whether a part is absent, or its digits and the spare bits of its reference are right.
+fn part_ok(p: Part) -> bool
+    ensures { λ r. ⌜ r ≡ ifPresent p (fieldsFit p) ⌝ }
+{
+    if p.present { fields_fit(p) } else { true }
 }
 
 // Tells whether the digits and the spare bits of each part that is present are right.
@@ -76,7 +107,7 @@ fn fields_ok(c: Circuit) -> bool
     }
 }
 
-// Tells whether a reservation outranks the holder that it stands above, if there is one.
+// Tells whether a reservation outranks the holder that it stands above, if there is one, and that holder may lose the circuit.
 fn pair_ok(c: Circuit) -> bool
     ensures { λ r. ⌜ r ≡ pairOk c ⌝ }
 {
@@ -86,10 +117,13 @@ fn pair_ok(c: Circuit) -> bool
     if !c.reservation.present {
         return true;
     }
+    if !Standing::preemptable(c.holder.present, c.holder.mark.level) {
+        return false;
+    }
     c.reservation.mark.outranks(c.holder.mark)
 }
 
-// Tells whether the flags of record i are 0 or 1, and the levels of c are known.
+// Tells whether the flags of record i are 0 or 1, and the levels of c are as they must be.
 fn flags_and_levels(t: &[u8], i: usize, c: Circuit) -> bool
     requires { ⌜ i < circuits (now t) ⌝ }
     ensures { λ r. ⌜ r ≡ flagsAt (now (t .entry)) i && levelsOk c ⌝ }
@@ -129,29 +163,36 @@ fn record(t: &[u8], i: usize) -> u64
     0
 }
 
-// Tells whether a part that is present is fit by itself: its level, its digits and its spare bits are right.
-fn fit(p: Part) -> bool
-    ensures { λ r. ⌜ r ≡ order.fit p ⌝ }
+// Tells whether a holder's part that is present is fit by itself: its level, its digits and its spare bits are right.
+fn holder_fit(p: Part) -> bool
+    ensures { λ r. ⌜ r ≡ fit heldUnder p ⌝ }
 {
-    let domain = p.mark.domain;
-    let reference = p.reference;
-    if !p.mark.level.known() {
-        return false;
+    if held_under(p.mark) {
+        fields_fit(p)
+    } else {
+        false
     }
-    if !rules::parameter::decimal(domain) {
-        return false;
+}
+
+// Tells whether a reservation's part that is present is fit by itself.
+fn reservation_fit(p: Part) -> bool
+    ensures { λ r. ⌜ r ≡ fit reservedUnder p ⌝ }
+{
+    if reserved_under(p.mark) {
+        fields_fit(p)
+    } else {
+        false
     }
-    point_code_ok(reference)
 }
 
 // Tells whether the holder's part of record i is present and fit, or zero.
 fn holder_in_order(t: &[u8], i: usize) -> bool
     requires { ⌜ i < circuits (now t) ⌝ }
-    ensures { λ r. ⌜ r ≡ partInOrder (circuitAt (now (t .entry)) i .holder) (holderOctets (now (t .entry)) i) ⌝ }
+    ensures { λ r. ⌜ r ≡ partInOrder heldUnder (circuitAt (now (t .entry)) i .holder) (holderOctets (now (t .entry)) i) ⌝ }
 {
     let p = table::holder_at(t, i);
     if p.present {
-        fit(p)
+        holder_fit(p)
     } else {
         table::holder_zero(t, i)
     }
@@ -171,7 +212,7 @@ fn in_order(t: &[u8], i: usize) -> bool
     if !table::reserved_at(t, i) {
         return table::reservation_zero(t, i);
     }
-    if !fit(table::reservation_at(t, i)) {
+    if !reservation_fit(table::reservation_at(t, i)) {
         return false;
     }
     pair_ok(table::circuit_at(t, i))

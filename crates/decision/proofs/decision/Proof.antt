@@ -28,6 +28,11 @@ returns-4 c =
 returns-5 : tie.Need-returns-5
 unfolding decision
 returns-5 c =
+    simp (c .before .match .keys5) (c .on-holder2 .ensures)
+
+returns-6 : tie.Need-returns-6
+unfolding decision
+returns-6 c =
     search ways depth 8
 
 pub decision-spec : {M : Type 1} → statement M
@@ -38,8 +43,10 @@ decision-spec =
     (λ c κs. search needs)
     (λ c κs. search needs)
     (λ c κs. search needs)
+    (λ c κs. search needs)
     returns
     returns-2
     returns-3
     returns-4
-    returns-5)
+    returns-5
+    returns-6)

@@ -8,8 +8,6 @@ pub part-ok-spec : {M : Type 1} → statement M
 part-ok-spec =
     tie.close
     (tie.spec
-    (λ c. search needs)
     (λ c κs. search needs)
-    (λ c. search both depth 8)
-    (λ c κs. search needs)
-    (λ c. search both depth 8))
+    (λ c. search both)
+    (λ c. search needs))
