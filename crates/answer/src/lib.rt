@@ -12,22 +12,28 @@ ghost use mathlib.Core.Bool.{cond, _||_};
 ghost use Prim.Native.Nat.{_<_, _≤_};
 ghost use Rattle.rules.specs.Search.{countTo};
 ghost use Rattle.rules.specs.Circuit.{nobody, overdue};
-ghost use Rattle.rules.specs.Answer.{noLoser, losers, anothers, answerOf};
+ghost use Rattle.rules.specs.Answer.{mayLose, noLoser, losers, anothers, answerOf};
 ghost use Rattle.rules.specs.Records.{circuits, circuitAt, mostCircuits};
 ghost use Rattle.rules.specs.Ready.{Ready};
 
-// Makes an answer that names no loser.
-fn no_loser(number: u8, detail: u16) -> Answer
-    ensures { λ r. ⌜ r ≡ noLoser number detail ⌝ }
+// Makes an answer that names a reservation as lost, if somebody has it, and no holder.
+fn may_lose(number: u8, detail: u16, reservation: Part) -> Answer
+    ensures { λ r. ⌜ r ≡ mayLose number detail reservation ⌝ }
 {
     let call = Part::nobody();
-    let reservation = Part::nobody();
     Answer {
         number,
         detail,
         call,
         reservation,
     }
+}
+
+// Makes an answer that names no loser.
+fn no_loser(number: u8, detail: u16) -> Answer
+    ensures { λ r. ⌜ r ≡ noLoser number detail ⌝ }
+{
+    may_lose(number, detail, Part::nobody())
 }
 
 // Gives the number `none` where nobody is lost, and `some` where a holder or a reservation is.
@@ -86,13 +92,7 @@ fn acted(e: Event, a: Act, i: u16, c: Circuit) -> Answer
         ),
         Act::Release => no_loser(number::RELEASED, i),
         Act::Cancel => no_loser(number::CANCELLED, i),
-        Act::Unmark => losers(
-            number::UNMARKED,
-            number::UNMARKED,
-            i,
-            Part::nobody(),
-            c.reservation,
-        ),
+        Act::Unmark => may_lose(number::UNMARKED, i, c.reservation),
     }
 }
 

@@ -7,7 +7,7 @@ use lib.Dec.{eqb, leb}
 use Rattle.rules.specs.declared.part.Part.{Part}
 use Rattle.rules.specs.declared.circuit.Circuit.{Circuit}
 use Rattle.rules.specs.declared.event.Event.{Event}
-use Rattle.rules.specs.Circuit.{nobody, withHolder, withReservation, unreserved}
+use Rattle.rules.specs.Circuit.{nobody, withoutPrecedence, withHolder, withReservation, unreserved}
 use Rattle.rules.specs.Numbers as number
 use Rattle.rules.specs.Records.{eventAt, answerNumber, answerDetail}
 
@@ -32,7 +32,9 @@ named e k y =
     -- 5 released: nobody holds the circuit, and a reservation stays
     (cond (eqb k number.released) (withHolder nobody y)
     -- 6 cancelled: nobody has reserved the circuit, and a holder stays
-    (cond (eqb k number.cancelled) (unreserved y) y)))
+    (cond (eqb k number.cancelled) (unreserved y)
+    -- 8 unmarked: the same call holds the circuit under no precedence, and nobody has reserved it
+    (cond (eqb k number.unmarked) (withHolder (withoutPrecedence (y .holder)) (unreserved y)) y))))
 
 -- the circuit has a reservation that was made 3,000 steps ago or more, modulo 4,294,967,296
 abbrev pub old : ℕ → Circuit → Bool

@@ -27,7 +27,7 @@ module _ (x : ℕ → Circuit) (n : ℕ) (e : Event) where
   outcome-below (Do Reserve i) = either-below (x i .reservation .present) 4 3 (omega arith) (omega arith)
   outcome-below (Do Release i) = omega arith
   outcome-below (Do Cancel i) = omega arith
-  outcome-below (Do Unmark i) = either-below (x i .reservation .present) 8 8 (omega arith) (omega arith)
+  outcome-below (Do Unmark i) = omega arith
   outcome-below Clock = omega arith
 
 pub number-below : {S : Type 0} (L : Layout S) (s : S) (e : List ℕ) → answered L s e .number < 64

@@ -3,7 +3,7 @@ use mathlib.Core.Path.{sym, ap, _∙_}
 use Rattle.rules.specs.declared.part.Part.{Part}
 use Rattle.rules.specs.declared.outcome.Act.{Act}
 use Rattle.rules.specs.declared.outcome.Outcome.the-variants.{Do}
-use Rattle.rules.specs.Numbers.{seized, seizedWithLoss, reserved, reservedWithLoss, unmarked}
+use Rattle.rules.specs.Numbers.{seized, seizedWithLoss, reserved, reservedWithLoss}
 use Rattle.rules.specs.Answer.{losers, answerOf}
 use borrow.Author.Needs.{needs}
 use Rattle.answer.proofs.acted.Statement.{statement}
@@ -36,8 +36,8 @@ returns-4 c =
 returns-5 : tie.Need-returns-5
 unfolding answerOf
 returns-5 c =
-    let a = c .before .before .before .before .before .args in
-    c .losers3 .ensures ∙ ap (λ (p : Part). losers unmarked unmarked (a .i) p (a .c .reservation)) (c .before .nobody2 .ensures) ∙ ap (λ (k : Act). answerOf (λ _. a .c) 0 (a .e) (Do k (a .i))) (sym (c .before .before .enum-told5 .given .1))
+    let a = c .before .before .before .before .args in
+    c .may-lose .ensures ∙ ap (λ (k : Act). answerOf (λ _. a .c) 0 (a .e) (Do k (a .i))) (sym (c .before .enum-told5 .given .1))
 
 pub acted-spec : {M : Type 1} → statement M
 acted-spec =
@@ -54,7 +54,6 @@ acted-spec =
     (λ c. search needs)
     (λ c κs. search needs)
     (λ c. search needs)
-    (λ c κs. search needs)
     (λ c κs. search needs)
     returns
     returns-2

@@ -1,4 +1,6 @@
--- Its parts.
+-- Nobody for the reservation too.
+use mathlib.Core.Path.{ap, _∙_}
+use Rattle.rules.specs.Answer.{mayLose}
 use borrow.Author.Needs.{needs}
 use Rattle.answer.proofs.no_loser.Statement.{statement}
 use Rattle.answer.proofs.no_loser.Tie as tie
@@ -9,4 +11,4 @@ no-loser-spec =
     (tie.spec
     (λ c κs. search needs)
     (λ c κs. search needs)
-    (λ c. cc (c .nobody2 .ensures, c .before .nobody .ensures)))
+    (λ c. let a = c .before .before .args in c .may-lose .ensures ∙ ap (mayLose (a .number) (a .detail)) (c .before .nobody .ensures)))
