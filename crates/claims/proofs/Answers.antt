@@ -9,7 +9,7 @@ use borrow.Author.Tests.{ne-eqb}
 use Rattle.octets.proofs.Tests.{by-test}
 use Rattle.rules.specs.declared.circuit.Circuit.{Circuit}
 use Rattle.rules.specs.declared.event.Event.{Event}
-use Rattle.rules.specs.declared.outcome.Act.the-variants.{Seize, Reserve, Release, Cancel}
+use Rattle.rules.specs.declared.outcome.Act.the-variants.{Seize, Reserve, Release, Cancel, Unmark}
 use Rattle.rules.specs.declared.outcome.Outcome.{Outcome}
 use Rattle.rules.specs.declared.outcome.Outcome.the-variants.{Refuse, Do, Clock}
 use Rattle.rules.specs.Circuit.{overdue, made}
@@ -34,7 +34,7 @@ module _ (e : Event) (i c : ℕ) (y : Circuit) where
     where
       other : named e k y ≡ y
       other =
-          simp (ne-eqb k 1 (omega arith), ne-eqb k 2 (omega arith), ne-eqb k 3 (omega arith), ne-eqb k 4 (omega arith), ne-eqb k 5 (omega arith), ne-eqb k 6 (omega arith))
+          simp (ne-eqb k 1 (omega arith), ne-eqb k 2 (omega arith), ne-eqb k 3 (omega arith), ne-eqb k 4 (omega arith), ne-eqb k 5 (omega arith), ne-eqb k 6 (omega arith), ne-eqb k 8 (omega arith))
 
   -- whether somebody was lost or not
   pub after-seizure : (lost : Bool) → afterAnswer e (cond lost 2 1) i c y ≡ cond (eqb i c) (made e Seize y) y
@@ -56,6 +56,7 @@ answer-tells x n e c (Do Seize i) =
 answer-tells x n e c (Do Reserve i) = after-reserving e i c (x c) (x i .reservation .present)
 answer-tells x n e c (Do Release i) = refl
 answer-tells x n e c (Do Cancel i) = refl
+answer-tells x n e c (Do Unmark i) = refl
 answer-tells x n e c Clock = refl
 
 -- in any lawful layout, from any valid table

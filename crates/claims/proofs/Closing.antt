@@ -15,7 +15,7 @@ use Rattle.rules.specs.declared.part.Part.{Part}
 use Rattle.rules.specs.declared.circuit.Circuit.{Circuit}
 use Rattle.rules.specs.declared.event.Event.{Event}
 use Rattle.rules.specs.declared.outcome.Act.{Act}
-use Rattle.rules.specs.declared.outcome.Act.the-variants.{Seize, Reserve, Release, Cancel}
+use Rattle.rules.specs.declared.outcome.Act.the-variants.{Seize, Reserve, Release, Cancel, Unmark}
 use Rattle.rules.specs.declared.outcome.Outcome.{Outcome}
 use Rattle.rules.specs.declared.outcome.Outcome.the-variants.{Refuse, Do, Clock}
 use Rattle.rules.specs.Search.{countTo}
@@ -98,6 +98,7 @@ module _ (x y : ℕ → Circuit) (n : ℕ) (e : Event) where
       let there = ap one (and-left (x i .holder .present) (same (x i .holder .reference) (e .reference)) (h .own)) in
       omega (arith, no-seizure 2 5 (h .kind) refl, moved Release i (h .there) q)
   closed (Do Cancel i) h q = omega (arith, no-seizure 4 6 (h .kind) refl, moved Cancel i (h .there) q)
+  closed (Do Unmark i) h q = omega (arith, no-seizure 6 8 (h .kind) refl, moved Unmark i (h .there) q)
   closed Clock h q =
       let s = unmoved Clock q (λ c. by-test (λ (z : Circuit). z .holder ≡ x c .holder) (overdue (e .clock) (x c)) (made e Cancel (x c)) (x c) (λ t. refl) (λ t. refl)) in
       omega (arith, no-seizure 5 7 h refl)

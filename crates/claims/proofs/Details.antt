@@ -11,7 +11,7 @@ use Rattle.rules.specs.declared.event.Event.{Event}
 use Rattle.rules.specs.declared.search.Found.{Found}
 use Rattle.rules.specs.declared.search.Found.the-variants.{At, Nothing}
 use Rattle.rules.specs.declared.outcome.Act.{Act}
-use Rattle.rules.specs.declared.outcome.Act.the-variants.{Seize, Reserve, Release, Cancel}
+use Rattle.rules.specs.declared.outcome.Act.the-variants.{Seize, Reserve, Release, Cancel, Unmark}
 use Rattle.rules.specs.declared.outcome.Refusal.{Refusal}
 use Rattle.rules.specs.declared.outcome.Refusal.the-variants.{Malformed, NotAllowed, ByRoutine, AlreadyThere, MarkDiffers, HolderNotLower, NotThere, NoCircuitForRoutine, NoCircuit, NoCircuitToReserve}
 use Rattle.rules.specs.declared.outcome.Outcome.{Outcome}
@@ -60,12 +60,16 @@ module _ (d : ℕ) where
   by-rules x n e =
       by-test Detailed (eqb (e .kind) 1) _ _ (λ k. set-up)
       (λ k.
-      by-test Detailed (eqb (e .kind) 2) _ _ (λ l. by-finding (heldBy x n (e .reference)) (Do Release) (Refuse NotThere) (λ i. tt) refl)
+      by-test Detailed (eqb (e .kind) 2) _ _ (λ l. on-holder Release)
       (λ l.
       by-test Detailed (eqb (e .kind) 3) _ _ (λ m. look-ahead)
       (λ m.
-      by-test Detailed (eqb (e .kind) 4) _ Clock (λ o. by-finding (reservedBy x n (e .reference)) (Do Cancel) (Refuse NotThere) (λ i. tt) refl) (λ o. tt))))
+      by-test Detailed (eqb (e .kind) 4) _ _ (λ o. by-finding (reservedBy x n (e .reference)) (Do Cancel) (Refuse NotThere) (λ i. tt) refl)
+      (λ o. by-test Detailed (eqb (e .kind) 6) _ Clock (λ q. on-holder Unmark) (λ q. tt)))))
     where
+      on-holder : (a : Act) → Detailed (onHolder x n a e)
+      on-holder a = by-finding (heldBy x n (e .reference)) (Do a) (Refuse NotThere) (λ i. tt) refl
+
       by-choice : (a : Act) (r : Refusal) → refusalDetail r ≡ detailAt (refusalNumber r) → Detailed (chosen x n e a r)
       by-choice a r h = by-finding (choice x n (e .mark)) (Do a) (Refuse r) (λ i. tt) h
 

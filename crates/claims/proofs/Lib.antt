@@ -16,6 +16,7 @@ pub mod Twice
 pub mod Parties
 pub mod Reservations
 pub mod Holders
+pub mod Untaken
 pub mod Alone
 pub mod Checked
 pub mod Reasons

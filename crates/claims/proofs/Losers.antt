@@ -11,7 +11,7 @@ use Rattle.rules.specs.declared.part.Part.{Part}
 use Rattle.rules.specs.declared.circuit.Circuit.{Circuit}
 use Rattle.rules.specs.declared.event.Event.{Event}
 use Rattle.rules.specs.declared.answer.Answer.{Answer}
-use Rattle.rules.specs.declared.outcome.Act.the-variants.{Seize, Reserve, Release, Cancel}
+use Rattle.rules.specs.declared.outcome.Act.the-variants.{Seize, Reserve, Release, Cancel, Unmark}
 use Rattle.rules.specs.declared.outcome.Outcome.{Outcome}
 use Rattle.rules.specs.declared.outcome.Outcome.the-variants.{Refuse, Do, Clock}
 use Rattle.rules.specs.Answer.{answerOf}
@@ -44,6 +44,7 @@ module _ (x : ℕ → Circuit) (n : ℕ) (e : Event) where
   names (Do Reserve i) h q = absurd (true≢false (sym q))
   names (Do Release i) h q = absurd (true≢false (sym q))
   names (Do Cancel i) h q = absurd (true≢false (sym q))
+  names (Do Unmark i) h q = absurd (true≢false (sym q))
   names Clock h q = absurd (true≢false (sym q))
 
 lost-there : {S : Type 0} (L : Layout S) (s : S) (e : List ℕ) → answered L s e .call .present ≡ true → Names (L .view s) (L .count s) (answered L s e)

@@ -6,15 +6,17 @@ use mathlib.Core.Bool.{Bool, true, false, _&&_, not, true≢false}
 use mathlib.Core.List.{List}
 use native.Mathlib.Omega.{arith}
 use lib.Dec.{ltb}
-use borrow.Author.Tests.{not-true, ltb-true, lt-ltb}
+use borrow.Author.Tests.{not-true, leb-true, le-leb, ltb-true, lt-ltb}
 use Rattle.octets.specs.Same.{same}
-use Rattle.octets.proofs.Tests.{and-left, and-right, and-both, not-so}
+use Rattle.octets.proofs.Tests.{and-left, and-right, and-both, halves, not-so}
 use Rattle.octets.proofs.Sames.{same-true, same-refl}
 use Rattle.rules.specs.declared.mark.Mark.{Mark}
 use Rattle.rules.specs.declared.part.Part.{Part}
 use Rattle.rules.specs.declared.circuit.Circuit.{Circuit}
 use Rattle.rules.specs.declared.search.Found.the-variants.{At, Nothing}
-use Rattle.rules.specs.Circuit.{isOf, standing, free, outranks, takeable}
+use Rattle.rules.specs.Fields.{levelOk}
+use Rattle.rules.specs.Circuit.{isOf, standing, free, outranks, preemptable, takeable}
+use Rattle.rules.proofs.Sound.{if-present, present-so}
 use Rattle.rules.proofs.Choice.{ChoiceIs, Rather as RatherTaken}
 use Rattle.claims.specs.Chosen.{Free, Lower, Rather, lower-precedence, no-holder, lower-number, NoneFree, NoneLower, FirstFree, Lowest}
 use Rattle.claims.specs.Demand.{StandsIn}
@@ -56,18 +58,25 @@ module _ (a b : Mark) where
   above-so h = (same-true (a .domain) (b .domain) (and-left domains levels h), ltb-true (a .level .0) (b .level .0) (and-right domains levels h))
 
 module _ (m : Mark) (y : Circuit) where
+  abbrev holder-level : Bool  -- the holder's level is 0 to 4
+  holder-level = levelOk (y .holder .mark .level .0)
+
   so-lower : Lower m y → takeable m y ≡ true
   unfolding takeable
   so-lower h =
-      and-both (not (free y)) (outranks m (standing y)) (ap not (not-so (free y) (λ f. h .occupied (free-so y f))))
-      (and-both (domains m (standing y)) (levels m (standing y)) (ap (same (m .domain)) (h .domain) ∙ same-refl (m .domain)) (lt-ltb (m .level .0) (standing y .level .0) (h .level)))
+      and-both (not (free y)) (preemptable y && outranks m (standing y)) (ap not (not-so (free y) (λ f. h .occupied (free-so y f))))
+      (and-both (preemptable y) (outranks m (standing y)) (if-present (y .holder) holder-level (λ q. le-leb (y .holder .mark .level .0) 4 (h .preemptable q)))
+      (and-both (domains m (standing y)) (levels m (standing y)) (ap (same (m .domain)) (h .domain) ∙ same-refl (m .domain)) (lt-ltb (m .level .0) (standing y .level .0) (h .level))))
 
   pub lower-so : takeable m y ≡ true → Lower m y
   unfolding takeable
   lower-so h =
-      let o = above-so m (standing y) (and-right (not (free y)) (outranks m (standing y)) h) in
+      let taken = halves h in
+      let yields = halves (taken .1) in
+      let o = above-so m (standing y) (yields .1) in
       record {
-        occupied = not-free y (not-true (free y) (and-left (not (free y)) (outranks m (standing y)) h));
+        occupied = not-free y (not-true (free y) (taken .0));
+        preemptable = λ q. leb-true (y .holder .mark .level .0) 4 (present-so (y .holder) holder-level (yields .0) q);
         domain = sym (o .0);
         level = o .1;
       }

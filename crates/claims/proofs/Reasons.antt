@@ -18,11 +18,12 @@ use Rattle.rules.specs.declared.verdict.Reason.the-variants.{FlagOrLevel, Digit
 use Rattle.rules.specs.declared.verdict.Verdict.the-variants.{Valid, Fault}
 use Rattle.rules.specs.Fields.{decimal, pointCodeOk}
 use Rattle.rules.specs.Search.{firstTo, orElse, found}
-use Rattle.rules.specs.Valid.{levelsOk, fieldsOk, pairOk, partNumbered, clash, repeated, recordVerdict}
+use Rattle.rules.specs.Circuit.{sameMark, noPrecedence}
+use Rattle.rules.specs.Valid.{heldUnder, levelsOk, fieldsOk, pairOk, partNumbered, clash, repeated, recordVerdict}
 use Rattle.rules.specs.Records.{partAt, circuitAt, flagsAt, blankAt, records}
 use Rattle.rules.proofs.Searches.{by-first}
 use Rattle.rules.proofs.Numbered.{even, odd}
-use Rattle.claims.specs.Named.{octet, holder, reservation, anyBelow, anyNotZero, anyDiffers, present, badLevel, badDigit, absentNotZero, flagOrLevel, digitOrPointCode, notZero, notAbove, standsIn, inLower, repeats}
+use Rattle.claims.specs.Named.{octet, holder, reservation, anyBelow, anyNotZero, anyDiffers, present, badLevel, markOff, badHolderLevel, badDigit, absentNotZero, flagOrLevel, digitOrPointCode, notZero, notAbove, standsIn, inLower, repeats}
 
 -- ---- tests
 -- rule p holds unless reason a does
@@ -35,6 +36,13 @@ both-rules {p} {q} {a} {b} h g = record { is = ap₂ (λ (x y : Bool). x && y) (
     neither : (x y : Bool) → not x && not y ≡ not (x || y)
     neither true y = refl
     neither false y = refl
+
+either-rule : {p q a b : Bool} → Unless p a → Unless q b → Unless (p || q) (a && b)
+either-rule {p} {q} {a} {b} h g = record { is = ap₂ (λ (x y : Bool). x || y) (h .is) (g .is) ∙ not-both a b }
+  where
+    not-both : (x y : Bool) → not x || not y ≡ not (x && y)
+    not-both true y = refl
+    not-both false y = refl
 
 three-rules : {p q r a b c : Bool} → Unless p a → Unless q b → Unless r c → Unless (p && (q && r)) (a || b || c)
 three-rules {p} {q} {r} h g k = record { is = sym (and-assoc p q r) ∙ both-rules (both-rules h g) k .is }
@@ -124,6 +132,13 @@ module _ (t : List ℕ) where
   level-fine : (o : ℕ) → Unless (not (present t o) || leb (octet t (o + 1)) 4) (badLevel t o)
   level-fine o = if-present (present t o) (not-above (octet t (o + 1)) 4)
 
+  -- level 15 and a zero domain are the mark of a call under no precedence
+  mark-off : (o : ℕ) → Unless (sameMark (partAt t o .mark) noPrecedence) (not (markOff t o))
+  mark-off o = record { is = ap (λ (b : Bool). eqb (octet t (o + 1)) 15 && b) (zeros-are (o + 2) 5 .is) ∙ by-not (markOff t o) .is }
+
+  holder-level-fine : (o : ℕ) → Unless (not (present t o) || heldUnder (partAt t o .mark)) (badHolderLevel t o)
+  holder-level-fine o = if-present (present t o) (either-rule (not-above (octet t (o + 1)) 4) (mark-off o))
+
   absent-fine : (o n : ℕ) → Unless (cond (present t o) true (zeros (span t o n))) (absentNotZero t o n)
   absent-fine o n = if-absent (present t o) (zeros-are o n)
 
@@ -141,7 +156,7 @@ module _ (t : List ℕ) where
     levels-fine : Unless (flagsAt t i && levelsOk (circuitAt t i)) (flagOrLevel t i)
     unfolding flagsAt levelsOk
     levels-fine =
-        both-rules (both-rules (flag-fine (octet t (holder i))) (flag-fine (octet t (reservation i)))) (both-rules (level-fine (holder i)) (level-fine (reservation i)))
+        both-rules (both-rules (flag-fine (octet t (holder i))) (flag-fine (octet t (reservation i)))) (both-rules (holder-level-fine (holder i)) (level-fine (reservation i)))
 
     fields-fine : Unless (fieldsOk pointCodeOk (circuitAt t i)) (digitOrPointCode t i)
     unfolding fieldsOk
@@ -156,7 +171,7 @@ module _ (t : List ℕ) where
     unfolding pairOk
     pair-fine =
         if-both (present t (holder i)) (present t (reservation i))
-        (both-rules (same-are (reservation i + 2) (holder i + 2) 5) (by-not (ltb (octet t (reservation i + 1)) (octet t (holder i + 1)))))
+        (three-rules (level-fine (holder i)) (same-are (reservation i + 2) (holder i + 2) 5) (by-not (ltb (octet t (reservation i + 1)) (octet t (holder i + 1)))))
 
     pub record-is : recordVerdict records t i ≡ cond (flagOrLevel t i) (Fault FlagOrLevel i) (cond (digitOrPointCode t i) (Fault DigitOrPointCode i) (cond (notZero t i) (Fault NotZero i) (cond (notAbove t i) (Fault NotAbove i) Valid)))
     unfolding recordVerdict records

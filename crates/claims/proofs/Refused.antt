@@ -9,7 +9,7 @@ use lib.ListN.{length}
 use Rattle.octets.proofs.Tests.{halves, by-so}
 use Rattle.rules.specs.declared.circuit.Circuit.{Circuit}
 use Rattle.rules.specs.declared.event.Event.{Event}
-use Rattle.rules.specs.declared.outcome.Act.the-variants.{Seize, Reserve, Release, Cancel}
+use Rattle.rules.specs.declared.outcome.Act.the-variants.{Seize, Reserve, Release, Cancel, Unmark}
 use Rattle.rules.specs.declared.outcome.Refusal.{Refusal}
 use Rattle.rules.specs.declared.outcome.Outcome.{Outcome}
 use Rattle.rules.specs.declared.outcome.Outcome.the-variants.{Refuse, Do, Clock}
@@ -43,6 +43,7 @@ by-refusal x n e P g (Do Reserve i) h = absurd (low (x i .reservation .present) 
     low false h = omega arith
 by-refusal x n e P g (Do Release i) h = absurd (omega arith)
 by-refusal x n e P g (Do Cancel i) h = absurd (omega arith)
+by-refusal x n e P g (Do Unmark i) h = absurd (omega arith)
 by-refusal x n e P g Clock h = absurd (omega arith)
 
 refused-effect : (t : List ℕ) (e : Event) (o : Outcome) → 20 ≤ answerOf (circuitAt t) (circuits t) e o .number → effect records t e o ≡ t

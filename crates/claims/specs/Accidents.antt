@@ -123,7 +123,7 @@ pub record ReleasedAmong (c : ℕ) (r : List ℕ) (turns : List Turn) : Type 0 w
 abbrev pub NeverTaken : Type 0
 NeverTaken =
     (n : ℕ) (lists : List EventList) (before : List Turn) (p : Turn) (since later : List Turn)
-    → past (emptyTable n) lists ≡ before ++ p ∷ since ++ later
+    → past (emptyTable n) lists ≡ before ++ p ∷ (since ++ later)
     → answerNumber (p .answer) ≡ number.unmarked
     → let c = answerDetail (p .answer) in
     let r = asked p .reference in

@@ -56,6 +56,9 @@ badLevel t o = present t o && ltb 4 (octet t (o + 1))
 abbrev pub markOff : List ℕ → ℕ → Bool
 markOff t o = eqb (octet t (o + 1)) 15 && not (anyNotZero t (o + 2) 5)
 
+abbrev pub badHolderLevel : List ℕ → ℕ → Bool  -- the part is present, and its level above 4, but not 15 with a zero domain
+badHolderLevel t o = present t o && (ltb 4 (octet t (o + 1)) && not (markOff t o))
+
 abbrev pub badDigit : ℕ → Bool  -- the digit in the high half of this octet or the one in its low half is above 9
 badDigit b = ltb 9 (b / 16) || ltb 9 (b % 16)
 
@@ -74,8 +77,7 @@ standsIn t p o = present t p && present t o && not (anyDiffers t (p + 7) (o + 7)
 -- ---- the reasons
 -- 41: a flag (octet 0 or 12) is neither 0 nor 1, or the level of a present part is above 4; but the holder's may be 15 with a zero domain
 abbrev pub flagOrLevel : List ℕ → ℕ → Bool
-flagOrLevel t i =
-    eitherPart (badFlag t) i || ((badLevel t (holder i) && not (markOff t (holder i))) || badLevel t (reservation i))
+flagOrLevel t i = eitherPart (badFlag t) i || (badHolderLevel t (holder i) || badLevel t (reservation i))
 
 -- 42: a digit of the network identity of a present part is above 9, or a spare bit of its point code is set
 abbrev pub digitOrPointCode : List ℕ → ℕ → Bool
@@ -86,12 +88,12 @@ abbrev pub notZero : List ℕ → ℕ → Bool
 notZero t i =
     absentNotZero t (holder i) 12 || absentNotZero t (reservation i) 16 || anyNotZero t (32 * i + 28) 4
 
--- 44: both parts are present, and the holder's mark is off, or the reservation is not strictly above the holder (a smaller level number) in
--- the same domain
+-- 44: both parts are present, and the holder's level is above 4, since its mark is off, or the reservation is not strictly above the holder
+-- (a smaller level number) in the same domain
 abbrev pub notAbove : List ℕ → ℕ → Bool
 notAbove t i =
     present t (holder i) && present t (reservation i)
-    && (ltb 4 (octet t (holder i + 1))
+    && (badLevel t (holder i)
     || anyDiffers t (reservation i + 2) (holder i + 2) 5 || not (ltb (octet t (reservation i + 1)) (octet t (holder i + 1))))
 
 abbrev pub has : List ℕ → ℕ → ℕ → Bool  -- record i has reason k, of the four that a record has by itself

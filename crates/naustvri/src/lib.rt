@@ -11,7 +11,7 @@ ghost use Rattle.naustvri.specs.Version.{version};
 // The version has these three parts, as in the header.
 const MAJOR: u32 = 2;
 
-const MINOR: u32 = 1;
+const MINOR: u32 = 2;
 
 const PATCH: u32 = 0;
 

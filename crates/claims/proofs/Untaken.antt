@@ -1,0 +1,148 @@
+-- A call whose mark came off holds its circuit until its own release.
+use Prim.Native.Nat.{ℕ, _<_}
+use mathlib.Core.Path.{_≡_, refl, sym, ap, _∙_, subst}
+use mathlib.Core.Logic.{⊎-elim, _≢_, _⊎_, inl, inr}
+use mathlib.Core.Bool.{Bool, true, cond, _||_}
+use mathlib.Core.List.{List, [], _∷_, _++_, append-nil, append-assoc}
+use native.Mathlib.Omega.{arith}
+use borrow.Author.Tests.{eq-eqb}
+use Rattle.octets.proofs.Tests.{by-test}
+use Rattle.octets.proofs.Width.{value-octets}
+use Rattle.rules.specs.declared.part.Part.{Part}
+use Rattle.rules.specs.declared.circuit.Circuit.{Circuit}
+use Rattle.rules.specs.declared.event.Event.{Event}
+use Rattle.rules.specs.declared.outcome.Act.the-variants.{Seize, Reserve, Release, Cancel, Unmark}
+use Rattle.rules.specs.declared.outcome.Outcome.{Outcome}
+use Rattle.rules.specs.declared.outcome.Outcome.the-variants.{Refuse, Do, Clock}
+use Rattle.rules.specs.Numbers as number
+use Rattle.rules.specs.Circuit.{noPrecedence, withoutPrecedence}
+use Rattle.rules.specs.Answer.{anothers, answerOf}
+use Rattle.rules.specs.Run.{outcomeOf, answered, answerRecord}
+use Rattle.rules.specs.Records.{circuitAt, records, circuits, answerOctets, answerNumber, answerDetail, emptyTable}
+use Rattle.rules.proofs.Numbers.{refusal-high}
+use Rattle.rules.proofs.Grounds.{Held, Grounds, decided}
+use Rattle.claims.specs.History.{Turn, asked, named, afterAnswer, afterTurn, empty, history}
+use Rattle.claims.specs.Lists.{EventList, tableAfter, past}
+use Rattle.claims.specs.Demand.{StandsIn}
+use Rattle.claims.specs.Accidents.{HolderGoes, released, higher-set-up, HolderStays, same-mark, unmarked, ReleasedAmong, NeverTaken}
+use Rattle.claims.proofs.Plain.{stands-in}
+use Rattle.claims.proofs.Ran.{stood}
+use Rattle.claims.proofs.Start.{start-valid}
+use Rattle.claims.proofs.Demanded.{start-count, start-shows, history-then, ran-split}
+use Rattle.claims.proofs.Holders.{no-holder-lost}
+
+abbrev off : List ℕ → Part  -- the call with reference r, under no precedence
+off r = record { present = true; mark = noPrecedence; reference = r }
+
+-- ---- what is answered by 8 is the kind 6 of the holder of the circuit that the answer names
+module _ (x : ℕ → Circuit) (n : ℕ) (e : Event) where
+  either-not : (b : Bool) (j k : ℕ) → j ≢ 8 → k ≢ 8 → cond b j k ≢ 8
+  either-not b j k p q = by-test (λ (m : ℕ). m ≢ 8) b j k (λ z. p) (λ z. q)
+
+  by-eight : (o : Outcome) → Grounds x n e o → answerOf x n e o .number ≡ 8 → let c = answerOf x n e o .detail in (c < n) × (Held x n e c ≡ true)
+  unfolding answerOf
+  by-eight (Refuse r) h q = absurd (omega (arith, refusal-high r))
+  by-eight (Do Seize i) h q =
+      absurd (either-not (x i .holder .present || anothers (e .reference) (x i .reservation) .present) 2 1 (λ z. omega arith) (λ z. omega arith) q)
+  by-eight (Do Reserve i) h q = absurd (either-not (x i .reservation .present) 4 3 (λ z. omega arith) (λ z. omega arith) q)
+  by-eight (Do Release i) h q = absurd (omega arith)
+  by-eight (Do Cancel i) h q = absurd (omega arith)
+  by-eight (Do Unmark i) h q = (h .there, h .own)
+  by-eight Clock h q = absurd (omega arith)
+
+-- turn p over table t
+held-there : (t : List ℕ) (p : Turn) → p .answer ≡ answerRecord records t (p .event) → answerNumber (p .answer) ≡ number.unmarked → let c = answerDetail (p .answer) in (c < circuits t) × StandsIn (asked p .reference) (circuitAt t c .holder)
+unfolding records answerRecord answered
+held-there t p a eight =
+    let x = circuitAt t in
+    let n = circuits t in
+    let e = asked p in
+    let said = answerOf x n e (outcomeOf records t e) in
+    let c : answerDetail (p .answer) ≡ said .detail = ap answerDetail a ∙ value-octets 1 (said .detail) in
+    let h = by-eight x n e (outcomeOf records t e) (decided records t e) (sym (ap answerNumber a) ∙ eight) in
+    subst (λ (d : ℕ). (d < n) × StandsIn (e .reference) (x d .holder)) (sym c) (h .0, stands-in (e .reference) (x (said .detail) .holder) (h .1))
+
+-- the mark comes off at a turn that is answered by 8
+comes-off : (p : Turn) (y : Circuit) → answerNumber (p .answer) ≡ number.unmarked → StandsIn (asked p .reference) (y .holder) → afterTurn p (answerDetail (p .answer)) y .holder ≡ off (asked p .reference)
+unfolding afterAnswer named
+comes-off p y eight there =
+    let c = answerDetail (p .answer) in
+    ap (λ (k : ℕ). afterAnswer (asked p) k c c y .holder) eight
+    ∙ ap (λ (b : Bool). cond b (named (asked p) 8 y) y .holder) (eq-eqb c c refl)
+    ∙ (λ d. record { present = there .0 d; mark = noPrecedence; reference = there .1 d })
+
+-- ---- from then on
+module _ (n : ℕ) (lists : List EventList) (c : ℕ) (l : c < n) (r : List ℕ) where
+  -- at one turn such a holder stays, or is released
+  at-turn : (before : List Turn) (p : Turn) (later : List Turn) → past (emptyTable n) lists ≡ before ++ p ∷ later → history before c .holder ≡ off r → (history (before ++ p ∷ []) c .holder ≡ off r) ⊎ ReleasedAmong c r (p ∷ [])
+  at-turn before p later split h =
+      ⊎-elim (λ s. inl (still s)) (λ g. inr (gone g)) (no-holder-lost n lists before p later split c l (ap (λ (q : Part). q .present) h))
+    where
+      still : HolderStays c p (history before c) (history (before ++ p ∷ []) c) → history (before ++ p ∷ []) c .holder ≡ off r
+      still (same-mark s) = s ∙ h
+      still (unmarked own eight s) = s ∙ ap withoutPrecedence h
+
+      gone : HolderGoes c p (history before c) → ReleasedAmong c r (p ∷ [])
+      gone (released own five) =
+          record {
+            before = [];
+            turn = p;
+            later = [];
+            split = refl;
+            kind = own .kind;
+            reference = sym (own .party .1) ∙ ap (λ (q : Part). q .reference) h;
+            answer = five;
+            named = own .named;
+          }
+      gone (higher-set-up k two taken level) = absurd (let z = ap (λ (q : Part). q .mark .level .0) h in omega arith)
+
+  -- what is released among some turns is released among more
+  among-more : (ps qs : List Turn) → ReleasedAmong c r ps → ReleasedAmong c r (ps ++ qs)
+  among-more ps qs g =
+      record {
+        before = g .before;
+        turn = g .turn;
+        later = g .later ++ qs;
+        split = ap (λ (os : List Turn). os ++ qs) (g .split) ∙ append-assoc (g .before) (g .turn ∷ g .later) qs;
+        kind = g .kind;
+        reference = g .reference;
+        answer = g .answer;
+        named = g .named;
+      }
+
+  among-after : (p : Turn) (ps : List Turn) → ReleasedAmong c r ps → ReleasedAmong c r (p ∷ ps)
+  among-after p ps g =
+      record {
+        before = p ∷ g .before;
+        turn = g .turn;
+        later = g .later;
+        split = ap (λ (os : List Turn). p ∷ os) (g .split);
+        kind = g .kind;
+        reference = g .reference;
+        answer = g .answer;
+        named = g .named;
+      }
+
+  keeps : (since before later : List Turn) → past (emptyTable n) lists ≡ before ++ (since ++ later) → history before c .holder ≡ off r → (history (before ++ since) c .holder ≡ off r) ⊎ ReleasedAmong c r since
+  keeps [] before later split h = inl (ap (λ (ps : List Turn). history ps c .holder) (append-nil before) ∙ h)
+  keeps (p ∷ since) before later split h =
+      ⊎-elim
+      (λ s.
+      let more : (ps : List Turn) → (before ++ p ∷ []) ++ ps ≡ before ++ p ∷ ps = append-assoc before (p ∷ []) in
+      ⊎-elim (λ z. inl (ap (λ (ps : List Turn). history ps c .holder) (sym (more since)) ∙ z)) (λ g. inr (among-after p since g))
+      (keeps since (before ++ p ∷ []) later (split ∙ sym (more (since ++ later))) s))
+      (λ g. inr (among-more (p ∷ []) since g))
+      (at-turn before p (since ++ later) split h)
+
+pub never-taken : NeverTaken
+never-taken n lists before p since later split eight =
+    let t = emptyTable n in
+    let c = answerDetail (p .answer) in
+    let s = stood p (since ++ later) (tableAfter t lists) before t (start-valid n) (λ d. empty) (start-shows n) (ran-split n lists (before ++ p ∷ (since ++ later)) split) in
+    let h = held-there (s .table) p (s .answer) eight in
+    let within : c < circuits t = let long = s .shows .as-long in omega (arith, h .0) in
+    let there = subst (λ (y : Circuit). StandsIn (asked p .reference) (y .holder)) (s .shows .tells c within) (h .1) in
+    let more : (ps : List Turn) → (before ++ p ∷ []) ++ ps ≡ before ++ p ∷ ps = append-assoc before (p ∷ []) in
+    ⊎-elim (λ z. inl (ap (λ (ps : List Turn). history ps c .holder) (sym (more since)) ∙ z)) inr
+    (keeps n lists c (omega (arith, within, start-count n)) (asked p .reference) since (before ++ p ∷ []) later (split ∙ sym (more (since ++ later)))
+    (ap (λ (y : ℕ → Circuit). y c .holder) (history-then before p) ∙ comes-off p (history before c) eight there))
