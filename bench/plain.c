@@ -119,15 +119,24 @@ static bool part_ok(const uint8_t *part)
     return part[FLAG] == 1 && part[LEVEL] <= NAUSTVRI_ROUTINE && fields_ok(part);
 }
 
+/* Whether a circuit is held by a call whose mark is off: it stands under no precedence, in the zero domain. */
+static bool unmarked(const uint8_t *holder)
+{
+    return holder[FLAG] == 1 && holder[LEVEL] == NAUSTVRI_NO_PRECEDENCE && all_zero(holder + DOMAIN, NAUSTVRI_DOMAIN_SIZE);
+}
+
+static bool holder_ok(const uint8_t *holder) { return part_ok(holder) || (unmarked(holder) && fields_ok(holder)); }
+
 /* Whether a record is as it should be by itself. */
 static bool circuit_ok(const uint8_t *circuit)
 {
     const uint8_t *holder = circuit + HOLDER, *reservation = circuit + RESERVATION;
-    if (!part_ok(holder) || !part_ok(reservation) || !all_zero(circuit + NAUSTVRI_CIRCUIT_ZERO, 4))
+    if (!holder_ok(holder) || !part_ok(reservation) || !all_zero(circuit + NAUSTVRI_CIRCUIT_ZERO, 4))
         return false;
     if (!reservation[FLAG])
         return all_zero(circuit + NAUSTVRI_CIRCUIT_RESERVATION_CLOCK, 4);
-    return !holder[FLAG] || (reservation[LEVEL] < holder[LEVEL] && same_domain(reservation + DOMAIN, holder + DOMAIN));
+    return !holder[FLAG] ||
+           (reservation[LEVEL] < holder[LEVEL] && same_domain(reservation + DOMAIN, holder + DOMAIN) && !unmarked(holder));
 }
 
 static bool flag_or_level_wrong(const uint8_t *part) { return part[FLAG] > 1 || (part[FLAG] && part[LEVEL] > NAUSTVRI_ROUTINE); }
@@ -138,7 +147,7 @@ static bool absent_not_zero(const uint8_t *part, size_t octets) { return !part[F
 static uint8_t reason(const uint8_t *circuit)
 {
     const uint8_t *holder = circuit + HOLDER, *reservation = circuit + RESERVATION, *rest = circuit + NAUSTVRI_CIRCUIT_ZERO;
-    if (flag_or_level_wrong(holder) || flag_or_level_wrong(reservation))
+    if ((flag_or_level_wrong(holder) && !unmarked(holder)) || flag_or_level_wrong(reservation))
         return NAUSTVRI_FLAG_OR_LEVEL;
     if ((holder[FLAG] && !fields_ok(holder)) || (reservation[FLAG] && !fields_ok(reservation)))
         return NAUSTVRI_DIGIT_OR_POINT_CODE;
@@ -242,6 +251,7 @@ static bool event_ok(const uint8_t *event)
         return parameter_ok(parameter);
     case NAUSTVRI_RELEASE:
     case NAUSTVRI_CANCEL:
+    case NAUSTVRI_NO_SERVICE:
         return all_zero(parameter, NAUSTVRI_PRECEDENCE_SIZE);
     case NAUSTVRI_CLOCK:
         return all_zero(parameter, NAUSTVRI_PRECEDENCE_SIZE + NAUSTVRI_REFERENCE_SIZE);
@@ -272,6 +282,9 @@ static int choose(const uint8_t *table, size_t circuits, const uint8_t *paramete
             return (int)i;
         const uint8_t *standing = circuit + (reserved ? RESERVATION : HOLDER);
         if (standing[LEVEL] <= level_in(parameter) || !same_domain(standing + DOMAIN, domain_in(parameter)))
+            continue;
+        /* A holder whose mark is off has the zero domain, and no call of that domain beats it. */
+        if (standing[LEVEL] == NAUSTVRI_NO_PRECEDENCE)
             continue;
         int rank = 2 * standing[LEVEL] + !held;
         if (rank > best_rank) {
@@ -387,6 +400,23 @@ static uint8_t cancel(uint8_t *table, size_t circuits, const struct call *call, 
     return write_answer(answer, NAUSTVRI_CANCELLED, NAUSTVRI_CAUSE_NONE, (unsigned)place);
 }
 
+/* The called party is without the service: the holder's mark comes off, and a reservation above it is lost. */
+static uint8_t unmark(uint8_t *table, size_t circuits, const struct call *call, uint8_t *answer)
+{
+    int place = find(table, circuits, HOLDER, call->reference);
+    if (place == NONE)
+        return refuse(answer, NAUSTVRI_NOT_PRESENT);
+    uint8_t *circuit = table + place * NAUSTVRI_CIRCUIT_SIZE;
+    write_answer(answer, NAUSTVRI_UNMARKED, NAUSTVRI_CAUSE_NONE, (unsigned)place);
+    if (circuit[RESERVATION]) {
+        lose(answer, NAUSTVRI_ANSWER_RESERVATION_LOST, circuit + RESERVATION);
+        empty_reservation(circuit);
+    }
+    circuit[HOLDER + LEVEL] = NAUSTVRI_NO_PRECEDENCE;
+    memset(circuit + HOLDER + DOMAIN, 0, NAUSTVRI_DOMAIN_SIZE);
+    return NAUSTVRI_UNMARKED;
+}
+
 static uint8_t take_clock(uint8_t *table, size_t circuits, const struct call *call, uint8_t *answer)
 {
     unsigned removed = 0;
@@ -420,6 +450,8 @@ static uint8_t apply(uint8_t *table, size_t circuits, const struct naustvri_chec
         return look_ahead(table, circuits, &call, answer);
     case NAUSTVRI_CANCEL:
         return cancel(table, circuits, &call, answer);
+    case NAUSTVRI_NO_SERVICE:
+        return unmark(table, circuits, &call, answer);
     default:
         return take_clock(table, circuits, &call, answer);
     }
@@ -468,7 +500,8 @@ static bool has_room(const uint64_t *figures)
     return figures[NAUSTVRI_FIGURE_LISTS] < NAUSTVRI_LISTS_MOST;
 }
 
-/* Adds an event by its answer. `levels` are those under which the holders stood just before it, and stand after it. */
+/* Adds an event by its answer. `levels` are those under which the holders stood just before it, and stand after it; a holder whose mark came
+ * off keeps the one that it had, since it is never lost. */
 static void count(uint64_t *figures, uint8_t *levels, const uint8_t *event, const uint8_t *answer)
 {
     uint8_t number = answer[NAUSTVRI_ANSWER_NUMBER], taker = level_in(event + NAUSTVRI_EVENT_PRECEDENCE);

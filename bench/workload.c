@@ -68,12 +68,13 @@ static unsigned some_level(void)
 /* Three calls of four are in the first domain. */
 static unsigned some_domain(void) { return below(4) == 0; }
 
-/* Makes `event` one about a call that stands in the table: in the part at `flag` of some circuit, where one is met soon. */
-static void name_a_part(uint8_t *event, const struct workload *w, const uint8_t *table, size_t flag)
+/* Makes `event` one about a call that stands in the table: in the part at `flag` of some circuit that has the part at `beside` too, where one
+ * is met soon. */
+static void name_a_part(uint8_t *event, const struct workload *w, const uint8_t *table, size_t flag, size_t beside)
 {
     for (int tries = 0; tries < 64; tries++) {
-        const uint8_t *part = table + below((unsigned)w->circuits) * NAUSTVRI_CIRCUIT_SIZE + flag;
-        if (!part[0])
+        const uint8_t *circuit = table + below((unsigned)w->circuits) * NAUSTVRI_CIRCUIT_SIZE, *part = circuit + flag;
+        if (!part[0] || !circuit[beside])
             continue;
         memcpy(event + NAUSTVRI_EVENT_REFERENCE, part + 7, NAUSTVRI_REFERENCE_SIZE);
         if (event[NAUSTVRI_EVENT_KIND] == NAUSTVRI_SET_UP)
@@ -124,23 +125,43 @@ static void make_mixed_event(uint8_t *event, const struct workload *w, const uin
         make_event(event, NAUSTVRI_CLOCK, 0, 0, 0, clock);
     } else if (die < 32) {
         make_event(event, NAUSTVRI_RELEASE, 0, 0, call, clock);
-        name_a_part(event, w, table, NAUSTVRI_CIRCUIT_HELD);
+        name_a_part(event, w, table, NAUSTVRI_CIRCUIT_HELD, NAUSTVRI_CIRCUIT_HELD);
     } else if (die < 38) {
         make_event(event, NAUSTVRI_CANCEL, 0, 0, call, clock);
-        name_a_part(event, w, table, NAUSTVRI_CIRCUIT_RESERVED);
+        name_a_part(event, w, table, NAUSTVRI_CIRCUIT_RESERVED, NAUSTVRI_CIRCUIT_RESERVED);
     } else if (die < 52) {
         make_event(event, NAUSTVRI_LOOK_AHEAD, level == NAUSTVRI_ROUTINE ? NAUSTVRI_PRIORITY : level, domain, call, clock);
     } else {
         make_event(event, NAUSTVRI_SET_UP, level, domain, call, clock);
         if (die < 60)
-            name_a_part(event, w, table, NAUSTVRI_CIRCUIT_RESERVED);
+            name_a_part(event, w, table, NAUSTVRI_CIRCUIT_RESERVED, NAUSTVRI_CIRCUIT_RESERVED);
     }
 }
 
 void make_mixed(struct workload *w, size_t circuits)
 {
-    begin(w, "mixed", circuits);
+    begin(w, "mixed list", circuits);
     make_list(w, make_mixed_event);
+}
+
+/* Of a hundred events three take the mark off a holder, whose called party is without the service: one in four times a holder that a
+ * reservation stands above, if such a one is met. The others are as in the mixed list. */
+static void make_event_without_service(uint8_t *event, const struct workload *w, const uint8_t *table, uint32_t call)
+{
+    if (below(100) >= 3) {
+        make_mixed_event(event, w, table, call);
+        return;
+    }
+    make_event(event, NAUSTVRI_NO_SERVICE, 0, 0, call, clock_at(call));
+    name_a_part(event, w, table, NAUSTVRI_CIRCUIT_HELD, NAUSTVRI_CIRCUIT_HELD);
+    if (below(4) == 0)
+        name_a_part(event, w, table, NAUSTVRI_CIRCUIT_HELD, NAUSTVRI_CIRCUIT_RESERVED);
+}
+
+void make_mixed_without_service(struct workload *w, size_t circuits)
+{
+    begin(w, "mixed list, 3 in 100 without service", circuits);
+    make_list(w, make_event_without_service);
 }
 
 /* The part of a circuit that its standing mark is read from. */
@@ -177,13 +198,13 @@ static void make_taking_event(uint8_t *event, const struct workload *w, const ui
 
 void make_take_heavy(struct workload *w, size_t circuits)
 {
-    begin(w, "take-heavy", circuits);
+    begin(w, "take-heavy list", circuits);
     make_list(w, make_taking_event);
 }
 
 void make_full_table(struct workload *w, size_t circuits)
 {
-    begin(w, "full table", circuits);
+    begin(w, "full table list", circuits);
     uint32_t call = 0;
     for (size_t i = 0; i < circuits; i++)
         make_part(w->table + i * NAUSTVRI_CIRCUIT_SIZE, NAUSTVRI_FLASH_OVERRIDE, some_domain(), ++call);

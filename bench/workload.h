@@ -12,8 +12,12 @@ struct workload {
     uint8_t events[NAUSTVRI_EVENTS_MOST * NAUSTVRI_EVENT_SIZE];
 };
 
-/* Calls of every kind in two domains over a route that is nearly always full. */
+/* Set-ups, releases, look-aheads, cancels and clocks in two domains over a route that is nearly always full. */
 void make_mixed(struct workload *w, size_t circuits);
+
+/* The same, and three of a hundred events take the mark off a holder: some with the reservation above it, a few from one whose mark is off
+ * already. From then on nobody takes the circuit before its release. */
+void make_mixed_without_service(struct workload *w, size_t circuits);
 
 /* A full route on which two events of five take a circuit, or reserve it above its holder; most others empty and fill one. */
 void make_take_heavy(struct workload *w, size_t circuits);

@@ -28,7 +28,7 @@
 /* The version of this header: one number that grows, and its three parts. The major part grows where a host that ignores the change
  * would be wrong, the minor part with any other change that a host sees. */
 #define NAUSTVRI_VERSION_MAJOR 2
-#define NAUSTVRI_VERSION_MINOR 1
+#define NAUSTVRI_VERSION_MINOR 2
 #define NAUSTVRI_VERSION_PATCH 0
 #define NAUSTVRI_VERSION (NAUSTVRI_VERSION_MAJOR * 10000u + NAUSTVRI_VERSION_MINOR * 100u + NAUSTVRI_VERSION_PATCH)
 
@@ -51,20 +51,21 @@ extern "C" {
     next(NAUSTVRI_RELEASED, 5, "the holder is gone") \
     next(NAUSTVRI_CANCELLED, 6, "the reservation is gone, a holder stays") \
     next(NAUSTVRI_CLOCK_TAKEN, 7, "the clock was looked at") \
+    next(NAUSTVRI_UNMARKED, 8, "the holder stays, without a precedence; a reservation above it is lost") \
     next(NAUSTVRI_WRONG_LENGTH, 20, "a length is wrong") \
     next(NAUSTVRI_TOO_MANY_LISTS, 60, "a list too many: the totals take no more") \
     next(NAUSTVRI_MALFORMED, 22, "the event or field is malformed") \
-    next(NAUSTVRI_FLAG_OR_LEVEL, 41, "a flag is neither 0 nor 1, or the level of a present part is above 4") \
+    next(NAUSTVRI_FLAG_OR_LEVEL, 41, "a flag is neither 0 nor 1, or the level of a present part is above 4 (a holder's may be 15 if its domain is zero)") \
     next(NAUSTVRI_DIGIT_OR_POINT_CODE, 42, "a digit of a present part is above 9, or a spare bit of its point code is set") \
     next(NAUSTVRI_NOT_ZERO, 43, "an octet of an absent part, or of octets 28 to 31, is not zero") \
-    next(NAUSTVRI_NOT_ABOVE_HOLDER, 44, "the reservation is not strictly above the holder in the same domain") \
+    next(NAUSTVRI_NOT_ABOVE_HOLDER, 44, "the reservation is not strictly above the holder in the same domain, or the holder's level is 15") \
     next(NAUSTVRI_REPEATED_REFERENCE, 45, "the reference of a present part stands in an earlier present part") \
     next(NAUSTVRI_LOOK_AHEAD_NOT_ALLOWED, 23, "a look-ahead whose LFB is not \"allowed\"") \
     next(NAUSTVRI_LOOK_AHEAD_BY_ROUTINE, 24, "a look-ahead by ROUTINE") \
     next(NAUSTVRI_ALREADY_PRESENT, 25, "set-up by a call that holds a circuit; look-ahead by one that holds or has reserved one") \
     next(NAUSTVRI_RESERVATION_DIFFERS, 26, "set-up whose level or domain is not its reservation's") \
     next(NAUSTVRI_HOLDER_NOT_LOWER, 28, "set-up on its reservation, holder there not strictly lower in the same domain") \
-    next(NAUSTVRI_NOT_PRESENT, 27, "release without a holder, cancel without a reservation") \
+    next(NAUSTVRI_NOT_PRESENT, 27, "release or no-service without a holder, cancel without a reservation") \
     next(NAUSTVRI_NO_CIRCUIT_ROUTINE, 30, "set-up by ROUTINE, no circuit free") \
     next(NAUSTVRI_NO_CIRCUIT_PRECEDENCE, 31, "set-up by a higher level, no circuit free or takeable") \
     next(NAUSTVRI_NO_CIRCUIT_LOOK_AHEAD, 32, "look-ahead, no circuit free or takeable")
@@ -78,13 +79,15 @@ extern "C" {
     next(NAUSTVRI_CAUSE_NO_CIRCUIT, 34, "no circuit available, for a ROUTINE call") \
     next(NAUSTVRI_CAUSE_PRECEDENCE_CALL_BLOCKED, 46, "precedence call blocked, for a higher level")
 
-/* Precedence levels: 0 is the highest. */
+/* Precedence levels: 0 is the highest. NO_PRECEDENCE stands in a table's holder part only: a holder has it after a no-service event, and no call
+ * can take its circuit. */
 #define NAUSTVRI_LEVELS(first, next) \
     first(NAUSTVRI_FLASH_OVERRIDE, 0, "FLASH OVERRIDE") \
     next(NAUSTVRI_FLASH, 1, "FLASH") \
     next(NAUSTVRI_IMMEDIATE, 2, "IMMEDIATE") \
     next(NAUSTVRI_PRIORITY, 3, "PRIORITY") \
-    next(NAUSTVRI_ROUTINE, 4, "ROUTINE")
+    next(NAUSTVRI_ROUTINE, 4, "ROUTINE") \
+    next(NAUSTVRI_NO_PRECEDENCE, 15, "NO PRECEDENCE")
 
 /* The look-ahead (LFB) indicator. */
 #define NAUSTVRI_LFBS(first, next) \
@@ -92,13 +95,15 @@ extern "C" {
     next(NAUSTVRI_LFB_PATH_RESERVED, 1, "path reserved") \
     next(NAUSTVRI_LFB_NOT_ALLOWED, 2, "not allowed")
 
-/* The kind of an event. */
+/* The kind of an event. A no-service event says that the called party of a holder is without the service: the holder loses its precedence and
+ * keeps its circuit. */
 #define NAUSTVRI_KINDS(first, next) \
     first(NAUSTVRI_SET_UP, 1, "set-up") \
     next(NAUSTVRI_RELEASE, 2, "release") \
     next(NAUSTVRI_LOOK_AHEAD, 3, "look-ahead") \
     next(NAUSTVRI_CANCEL, 4, "cancel") \
-    next(NAUSTVRI_CLOCK, 5, "clock")
+    next(NAUSTVRI_CLOCK, 5, "clock") \
+    next(NAUSTVRI_NO_SERVICE, 6, "no-service")
 
 /* No comma follows the last constant, as C89 has it. */
 #define NAUSTVRI_FIRST_CONSTANT(name, value, meaning) name = value
@@ -127,7 +132,7 @@ enum naustvri_kind { NAUSTVRI_KINDS(NAUSTVRI_FIRST_CONSTANT, NAUSTVRI_NEXT_CONST
 
 /* A circuit, 32 octets: where each field stands. A part whose flag is 0 is all zero. */
 #define NAUSTVRI_CIRCUIT_HELD 0                   /* flag of the holder's part, octets 0 to 11 */
-#define NAUSTVRI_CIRCUIT_HOLDER_LEVEL 1
+#define NAUSTVRI_CIRCUIT_HOLDER_LEVEL 1           /* 0 to 4; or NO_PRECEDENCE, where the domain is zero and the circuit not reserved */
 #define NAUSTVRI_CIRCUIT_HOLDER_DOMAIN 2          /* octets 2 to 6 of the precedence parameter */
 #define NAUSTVRI_CIRCUIT_HOLDER_REFERENCE 7
 #define NAUSTVRI_CIRCUIT_RESERVED 12              /* flag of the reservation's part, octets 12 to 27 */
@@ -139,7 +144,7 @@ enum naustvri_kind { NAUSTVRI_KINDS(NAUSTVRI_FIRST_CONSTANT, NAUSTVRI_NEXT_CONST
 
 /* An event, 16 octets. */
 #define NAUSTVRI_EVENT_KIND 0
-#define NAUSTVRI_EVENT_PRECEDENCE 1 /* zero, spare bits too, in a release, a cancel and a clock event */
+#define NAUSTVRI_EVENT_PRECEDENCE 1 /* zero, spare bits too, in a release, a cancel, a clock and a no-service event */
 #define NAUSTVRI_EVENT_REFERENCE 7  /* zero, spare bits too, in a clock event */
 #define NAUSTVRI_EVENT_CLOCK 12     /* 4 octets, steps of 10 ms: read in a look-ahead and a clock event */
 
@@ -147,9 +152,9 @@ enum naustvri_kind { NAUSTVRI_KINDS(NAUSTVRI_FIRST_CONSTANT, NAUSTVRI_NEXT_CONST
 #define NAUSTVRI_ANSWER_NUMBER 0
 #define NAUSTVRI_ANSWER_CAUSE 1
 #define NAUSTVRI_ANSWER_PLACE 2             /* 2 octets: the circuit; of a clock event how many reservations it removed; at 41 to 45 the bad record */
-#define NAUSTVRI_ANSWER_CALL_LOST 4         /* a holder lost its circuit: filled, as all below, at 2 and 4 alone */
+#define NAUSTVRI_ANSWER_CALL_LOST 4         /* a holder lost its circuit: at 2 alone */
 #define NAUSTVRI_ANSWER_LOST_CALL 5         /* its call reference */
-#define NAUSTVRI_ANSWER_RESERVATION_LOST 10 /* a reservation was lost */
+#define NAUSTVRI_ANSWER_RESERVATION_LOST 10 /* a reservation was lost: at 2, 4 and 8 alone */
 #define NAUSTVRI_ANSWER_LOST_RESERVATION 11 /* its call reference */
 
 /* ANSWER_PLACE where there is none, and the record where none is named. */

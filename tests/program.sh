@@ -56,7 +56,8 @@ for size in 0 1 31 33 8191 8193 8224 100000; do
 done
 
 # Reason, record, and octets in octal by their places: two circuits, of which the first is held at ROUTINE by call 1, point code 1; these
-# octets of them are then changed. Each reason in each record, two in one record, in two, and a repeated reference beside another reason.
+# octets of them are then changed. Each reason in each record, two in one record, in two, a repeated reference beside another reason, and level
+# 15 where it may not stand.
 while read -r reason record changes <&3; do
     { printf '\001\004\000\000\000\000\000\001\000\000\001' && zeros 53; } >circuits.bin
     for change in $changes; do
@@ -86,6 +87,14 @@ done 3<<'END'
 43 0  31=1 32=2
 44 0  12=1 13=4 19=1 22=1 32=1 39=1 42=1
 43 1  12=1 13=3 19=1 22=1 60=1
+41 0  1=16
+41 0  1=17 6=1
+41 0  1=17 2=240
+41 1  44=1 45=17
+42 0  1=17 11=100
+43 1  33=17
+44 0  1=17 12=1 13=3 19=2
+44 0  1=17 12=1 13=3 18=1 19=2
 END
 for record in 7 10 99 100 255; do
     { zeros $((record * 32 + 31)) && printf '\001'; } >circuits.bin
@@ -97,6 +106,28 @@ zeros 64 >circuits.bin
 hold "01's listing"
 run_linked "$bin/decide" <events | diff "$repository/crates/decide/stdout" -
 run_linked "$bin/figures" <events | diff "$repository/crates/figures/stdout" -
+
+# A mark that comes off, with a reservation above it and with none, and a circuit that no call of the zero domain takes from then on: kind, level
+# and call of each event on a route of one circuit, and the line that document 02's L4 has for it.
+zeros 32 >circuits.bin
+cat >script <<'END'
+1 4 1  1 1 0 0 - -
+3 3 2  2 3 0 0 - -
+6 0 2  3 27 0 - - -
+6 0 1  4 8 0 0 - 2/1
+6 0 1  5 8 0 0 - -
+1 0 3  6 31 46 - - -
+3 0 3  7 32 0 - - -
+2 0 1  8 5 0 0 - -
+1 0 3  9 1 0 0 - -
+END
+while read -r kind level call _; do
+    printf '%b' "\\0$kind\\0$level\\0\\0\\0\\0\\0\\0$call\\0\\0\\01\\0\\0\\0\\0\\0"
+done <script >events
+hold 'a mark that comes off'
+sed 's/.*  //' script >wanted
+run_linked "$bin/decide" <events | sed 1d | diff wanted -
+
 for circuits in 1 2 64 65 256; do
     for count in 0 1 100; do
         draw $circuits $count $((circuits + count))

@@ -4,15 +4,15 @@ use crate::{
     read_reference, Reference, Refusal, ANSWER_CALL_LOST, ANSWER_CAUSE, ANSWER_LOST_CALL,
     ANSWER_LOST_RESERVATION, ANSWER_NUMBER, ANSWER_PLACE, ANSWER_RESERVATION_LOST, ANSWER_SIZE,
     CANCELLED, CLOCK_TAKEN, NO_PLACE, REFERENCE_SIZE, RELEASED, RESERVED, RESERVED_WITH_LOSS,
-    SEIZED, SEIZED_WITH_LOSS,
+    SEIZED, SEIZED_WITH_LOSS, UNMARKED,
 };
 
-/// Who lost something by a set-up or a look-ahead.
+/// Who lost something by a set-up, a look-ahead or a no-service event. Only a set-up costs a call its circuit.
 #[derive(Clone, Copy, Debug, Default, PartialEq, Eq, Hash)]
 pub struct Lost {
     /// The holder that lost its circuit. The host releases it: with cause 9 on the circuit, and with cause 8 on its other side.
     pub call: Option<Reference>,
-    /// The call whose reservation was lost. It needs no release.
+    /// The call whose reservation was lost. It needs no release, and may look ahead again.
     pub reservation: Option<Reference>,
 }
 
@@ -48,6 +48,13 @@ pub enum Done {
     ClockTaken {
         /// How many reservations went.
         removed: u16,
+    },
+    /// The holder stays, without a precedence: [`UNMARKED`](crate::UNMARKED).
+    Unmarked {
+        /// The circuit.
+        circuit: u16,
+        /// Who lost something: the call that had the circuit reserved, if there was one.
+        lost: Lost,
     },
 }
 
@@ -93,6 +100,7 @@ impl Answer {
             (RELEASED, Some(circuit)) => Ok(Done::Released { circuit }),
             (CANCELLED, Some(circuit)) => Ok(Done::Cancelled { circuit }),
             (CLOCK_TAKEN, Some(removed)) => Ok(Done::ClockTaken { removed }),
+            (UNMARKED, Some(circuit)) => Ok(Done::Unmarked { circuit, lost }),
             (number, record) => Err(Refusal::from_number(number, record.unwrap_or(NO_PLACE))),
         }
     }

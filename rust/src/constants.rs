@@ -3,7 +3,7 @@
 /// The major part of [`VERSION`]: it grows where a host that ignores the change would be wrong.
 pub const VERSION_MAJOR: u32 = 2;
 /// The minor part of [`VERSION`]: it grows with any other change that a host sees.
-pub const VERSION_MINOR: u32 = 1;
+pub const VERSION_MINOR: u32 = 2;
 /// The patch part of [`VERSION`].
 pub const VERSION_PATCH: u32 = 0;
 /// The version of this package, one number that grows; [`version()`](crate::version) is the archive's.
@@ -33,7 +33,7 @@ pub const RESERVATION_STEPS: u32 = 3000;
 
 /// In a circuit: the flag of the holder's part, octets 0 to 11. A part whose flag is 0 is all zero.
 pub const CIRCUIT_HELD: usize = 0;
-/// In a circuit: the holder's level.
+/// In a circuit: the holder's level, 0 to 4; or [`NO_PRECEDENCE`](crate::NO_PRECEDENCE), where the domain is zero and the circuit not reserved.
 pub const CIRCUIT_HOLDER_LEVEL: usize = 1;
 /// In a circuit: the holder's domain, octets 2 to 6 of the precedence parameter.
 pub const CIRCUIT_HOLDER_DOMAIN: usize = 2;
@@ -54,7 +54,7 @@ pub const CIRCUIT_ZERO: usize = 28;
 
 /// In an event: its kind.
 pub const EVENT_KIND: usize = 0;
-/// In an event: the precedence parameter; zero, spare bits too, in a release, a cancel and a clock event.
+/// In an event: the precedence parameter; zero, spare bits too, in a release, a cancel, a clock and a no-service event.
 pub const EVENT_PRECEDENCE: usize = 1;
 /// In an event: the call reference; zero, spare bits too, in a clock event.
 pub const EVENT_REFERENCE: usize = 7;
@@ -67,11 +67,11 @@ pub const ANSWER_NUMBER: usize = 0;
 pub const ANSWER_CAUSE: usize = 1;
 /// In an answer: two octets, the circuit; of a clock event how many reservations it removed; at 41 to 45 the bad record.
 pub const ANSWER_PLACE: usize = 2;
-/// In an answer: a holder lost its circuit. It is filled, as all below, at 2 and 4 alone.
+/// In an answer: a holder lost its circuit, at 2 alone.
 pub const ANSWER_CALL_LOST: usize = 4;
 /// In an answer: the call reference of that holder.
 pub const ANSWER_LOST_CALL: usize = 5;
-/// In an answer: a reservation was lost.
+/// In an answer: a reservation was lost, at 2, 4 and 8 alone.
 pub const ANSWER_RESERVATION_LOST: usize = 10;
 /// In an answer: the call reference of that reservation.
 pub const ANSWER_LOST_RESERVATION: usize = 11;

@@ -58,6 +58,11 @@ pub enum Event {
         /// The clock now, in steps of 10 ms.
         clock: u32,
     },
+    /// The called party of a call that holds a circuit is without the service: nobody takes the circuit from it any more.
+    NoService {
+        /// The call.
+        call: Reference,
+    },
 }
 
 impl Event {
@@ -70,6 +75,7 @@ impl Event {
             Event::LookAhead { .. } => Kind::LookAhead,
             Event::Cancel { .. } => Kind::Cancel,
             Event::Clock { .. } => Kind::Clock,
+            Event::NoService { .. } => Kind::NoService,
         }
     }
 
@@ -95,7 +101,8 @@ impl Event {
             Event::SetUp { call, .. }
             | Event::Release { call }
             | Event::LookAhead { call, .. }
-            | Event::Cancel { call } => Some(call),
+            | Event::Cancel { call }
+            | Event::NoService { call } => Some(call),
             Event::Clock { .. } => None,
         }
     }

@@ -54,6 +54,10 @@ macro_rules! numbered {
 
 numbered! {
     /// A precedence level. They have no order here: number 0 is the highest, and who may take whose circuit is for the library to say.
+    ///
+    /// [`NO_PRECEDENCE`](crate::NO_PRECEDENCE) is no level of a call, so [`from_number`](Level::from_number) gives `None` for it. Of the octet
+    /// [`CIRCUIT_HOLDER_LEVEL`](crate::CIRCUIT_HOLDER_LEVEL) of a held circuit in a valid table it gives the holder's level, and `None` where the
+    /// holder has none.
     Level, level_name, level_meaning;
     FlashOverride = FLASH_OVERRIDE,
     Flash = FLASH,
@@ -79,6 +83,7 @@ numbered! {
     LookAhead = LOOK_AHEAD,
     Cancel = CANCEL,
     Clock = CLOCK,
+    NoService = NO_SERVICE,
 }
 
 numbered! {

@@ -1,10 +1,11 @@
 // The tables of include/naustvri.h, row by row: constant, value and meaning. A test compares the two.
 
-// A table's constants, and the functions that give the name and the meaning of a value.
+// A table's constants, and the functions that give the name and the meaning of a value. A comment above a row goes to its constant too.
 macro_rules! table {
-    ($what:literal, $name_of:ident, $meaning_of:ident; $($name:ident = $value:literal, $meaning:literal;)*) => {
+    ($what:literal, $name_of:ident, $meaning_of:ident; $($(#[$more:meta])* $name:ident = $value:literal, $meaning:literal;)*) => {
         $(
             #[doc = concat!("The ", $what, " ", $value, ": ", $meaning, ".")]
+            $(#[$more])*
             pub const $name: u8 = $value;
         )*
 
@@ -40,20 +41,21 @@ table! {
     RELEASED = 5, "the holder is gone";
     CANCELLED = 6, "the reservation is gone, a holder stays";
     CLOCK_TAKEN = 7, "the clock was looked at";
+    UNMARKED = 8, "the holder stays, without a precedence; a reservation above it is lost";
     WRONG_LENGTH = 20, "a length is wrong";
     TOO_MANY_LISTS = 60, "a list too many: the totals take no more";
     MALFORMED = 22, "the event or field is malformed";
-    FLAG_OR_LEVEL = 41, "a flag is neither 0 nor 1, or the level of a present part is above 4";
+    FLAG_OR_LEVEL = 41, "a flag is neither 0 nor 1, or the level of a present part is above 4 (a holder's may be 15 if its domain is zero)";
     DIGIT_OR_POINT_CODE = 42, "a digit of a present part is above 9, or a spare bit of its point code is set";
     NOT_ZERO = 43, "an octet of an absent part, or of octets 28 to 31, is not zero";
-    NOT_ABOVE_HOLDER = 44, "the reservation is not strictly above the holder in the same domain";
+    NOT_ABOVE_HOLDER = 44, "the reservation is not strictly above the holder in the same domain, or the holder's level is 15";
     REPEATED_REFERENCE = 45, "the reference of a present part stands in an earlier present part";
     LOOK_AHEAD_NOT_ALLOWED = 23, "a look-ahead whose LFB is not \"allowed\"";
     LOOK_AHEAD_BY_ROUTINE = 24, "a look-ahead by ROUTINE";
     ALREADY_PRESENT = 25, "set-up by a call that holds a circuit; look-ahead by one that holds or has reserved one";
     RESERVATION_DIFFERS = 26, "set-up whose level or domain is not its reservation's";
     HOLDER_NOT_LOWER = 28, "set-up on its reservation, holder there not strictly lower in the same domain";
-    NOT_PRESENT = 27, "release without a holder, cancel without a reservation";
+    NOT_PRESENT = 27, "release or no-service without a holder, cancel without a reservation";
     NO_CIRCUIT_ROUTINE = 30, "set-up by ROUTINE, no circuit free";
     NO_CIRCUIT_PRECEDENCE = 31, "set-up by a higher level, no circuit free or takeable";
     NO_CIRCUIT_LOOK_AHEAD = 32, "look-ahead, no circuit free or takeable";
@@ -78,6 +80,8 @@ table! {
     IMMEDIATE = 2, "IMMEDIATE";
     PRIORITY = 3, "PRIORITY";
     ROUTINE = 4, "ROUTINE";
+    /// It stands in a table's holder part only: a holder has it after a no-service event, and no call can take its circuit.
+    NO_PRECEDENCE = 15, "NO PRECEDENCE";
 }
 
 // The look-ahead (LFB) indicator.
@@ -96,4 +100,5 @@ table! {
     LOOK_AHEAD = 3, "look-ahead";
     CANCEL = 4, "cancel";
     CLOCK = 5, "clock";
+    NO_SERVICE = 6, "no-service";
 }

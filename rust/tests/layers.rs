@@ -35,8 +35,8 @@ fn draw(random: &mut Random, clock: u32) -> Drawn {
     let first_digit = random.mostly_below(2, 10) as u8;
     Drawn {
         kind: [
-            SET_UP, SET_UP, RELEASE, LOOK_AHEAD, LOOK_AHEAD, CANCEL, CLOCK,
-        ][random.below(7) as usize],
+            SET_UP, SET_UP, RELEASE, LOOK_AHEAD, LOOK_AHEAD, CANCEL, CLOCK, NO_SERVICE,
+        ][random.below(8) as usize],
         precedence: Precedence {
             level: random.below(5) as u8,
             lfb: [LFB_ALLOWED, LFB_ALLOWED, LFB_PATH_RESERVED, LFB_NOT_ALLOWED]
@@ -81,6 +81,7 @@ fn typed(drawn: &Drawn) -> Event {
             clock,
         },
         CANCEL => Event::Cancel { call },
+        NO_SERVICE => Event::NoService { call },
         _ => Event::Clock { clock },
     }
 }
@@ -136,6 +137,7 @@ fn as_answer(result: Result<Done, Refusal>) -> Answer {
         Ok(Done::Released { circuit }) => (5, 0, Some(circuit), nobody),
         Ok(Done::Cancelled { circuit }) => (6, 0, Some(circuit), nobody),
         Ok(Done::ClockTaken { removed }) => (7, 0, Some(removed), nobody),
+        Ok(Done::Unmarked { circuit, lost }) => (8, 0, Some(circuit), lost),
         Err(refusal) => (refusal.number(), refusal.cause(), refusal.record(), nobody),
         other => panic!("not looked at: {:?}", other),
     };
@@ -189,6 +191,7 @@ fn random_events() {
     let mut random = Random(0x9e37_79b9_7f4a_7c15);
     let (mut seen, mut counted) = ([0u32; 256], [0; 256]);
     let mut day = Figures::default();
+    let mut unmarked_with_loss = 0;
     for round in 0..200 {
         let size = (1 + round % 5) * CIRCUIT_SIZE;
         let (mut table, mut lent) = (vec![0; size], vec![0; size]);
@@ -200,6 +203,9 @@ fn random_events() {
             let drawn = draw(&mut random, clock);
             let given = as_answer(route.apply(&typed(&drawn)));
             seen[usize::from(given.number)] += 1;
+            if given.number == UNMARKED && given.lost.reservation.is_some() {
+                unmarked_with_loss += 1;
+            }
             match octets(&drawn) {
                 Err(number) => assert_eq!(given.number, number),
                 Ok(octets) => {
@@ -212,6 +218,7 @@ fn random_events() {
                 }
             }
             assert_eq!(route.table(), table);
+            assert_eq!(check(&table).number, DONE);
         }
         assert_eq!(route.lamps(), lamps(&table));
 
@@ -230,9 +237,10 @@ fn random_events() {
     }
     figures_close(&day, 200, &counted);
     // Every number that an event over a valid table can have.
-    for number in [1, 2, 3, 4, 5, 6, 7, 22, 23, 24, 25, 26, 27, 30, 31, 32] {
+    for number in [1, 2, 3, 4, 5, 6, 7, 8, 22, 23, 24, 25, 26, 27, 30, 31, 32] {
         assert!(seen[number] > 0, "no event was answered by {number}");
     }
+    assert!(unmarked_with_loss > 0, "no reservation was lost by 8");
 }
 
 #[test]

@@ -462,3 +462,129 @@ fn bad_record_is_named() {
         refused_everywhere(&table, number, record);
     }
 }
+
+// Call 1 holds the only circuit, and its called party is without the service. It was set up at ROUTINE in a domain that is not zero.
+fn unmarked() -> [u8; CIRCUIT_SIZE] {
+    let mut table = [0; CIRCUIT_SIZE];
+    let mut set_up = event_of(SET_UP, ROUTINE, call(1), 0);
+    set_up[EVENT_PRECEDENCE + 1..EVENT_REFERENCE].copy_from_slice(&[0, 0x46, 0, 0, 7]);
+    for (octets, number) in [
+        (set_up, SEIZED),
+        (event_of(NO_SERVICE, 0, call(1), 0), UNMARKED),
+    ] {
+        assert_eq!(apply(&mut table, &octets, &mut [0; ANSWER_SIZE]), number);
+    }
+    table
+}
+
+#[test]
+fn no_service() {
+    let events = [
+        event_of(NO_SERVICE, 0, call(1), 0),
+        event_of(SET_UP, ROUTINE, call(1), 0),
+        event_of(LOOK_AHEAD, PRIORITY, call(2), 100),
+        event_of(NO_SERVICE, 0, call(2), 0),
+        event_of(NO_SERVICE, ROUTINE, call(1), 0),
+        event_of(NO_SERVICE, 0, call(1), 0),
+        event_of(NO_SERVICE, 0, call(1), 7),
+        event_of(SET_UP, FLASH_OVERRIDE, call(3), 0),
+        event_of(LOOK_AHEAD, FLASH_OVERRIDE, call(3), 100),
+        event_of(SET_UP, ROUTINE, call(1), 0),
+        event_of(LOOK_AHEAD, PRIORITY, call(1), 100),
+        event_of(CANCEL, 0, call(1), 0),
+        event_of(RELEASE, 0, call(1), 0),
+        event_of(SET_UP, ROUTINE, call(4), 0),
+        event_of(SET_UP, PRIORITY, call(3), 0),
+    ]
+    .concat();
+    let mut table = [0; CIRCUIT_SIZE];
+    let (mut answers, mut totals) = (vec![0xff; events.len()], [0; FIGURES]);
+    assert_eq!(add(&mut table, &events, &mut answers, &mut totals), DONE);
+    let lines: Vec<String> = answers
+        .chunks(ANSWER_SIZE)
+        .enumerate()
+        .map(|(i, answer)| line(i + 1, answer))
+        .collect();
+    // From the sixth event to the release nobody takes the circuit; after that PRIORITY takes it from a ROUTINE call.
+    assert_eq!(
+        lines,
+        [
+            "1 27 0 - - -",
+            "2 1 0 0 - -",
+            "3 3 0 0 - -",
+            "4 27 0 - - -",
+            "5 22 0 - - -",
+            "6 8 0 0 - 2/1",
+            "7 8 0 0 - -",
+            "8 31 46 - - -",
+            "9 32 0 - - -",
+            "10 25 0 - - -",
+            "11 25 0 - - -",
+            "12 27 0 - - -",
+            "13 5 0 0 - -",
+            "14 1 0 0 - -",
+            "15 2 0 0 4/1 -",
+        ]
+    );
+    assert_eq!(totals[FIGURE_ANSWERED + usize::from(UNMARKED)], 2);
+    for (place, total) in [
+        (FIGURE_SEIZED, 3),
+        (FIGURE_RELEASED, 1),
+        (FIGURE_LOST, 1),
+        (FIGURE_END, 1),
+    ] {
+        assert_eq!(totals[place], total);
+    }
+}
+
+#[test]
+fn level_15_in_a_table() {
+    let sound = unmarked();
+    assert_eq!(sound[CIRCUIT_HOLDER_LEVEL], NO_PRECEDENCE);
+    assert_eq!(
+        sound[CIRCUIT_HOLDER_DOMAIN..CIRCUIT_HOLDER_REFERENCE],
+        [0; DOMAIN_SIZE]
+    );
+    assert_eq!(
+        read_reference(&sound[CIRCUIT_HOLDER_REFERENCE..CIRCUIT_RESERVED]).value,
+        call(1)
+    );
+    assert_eq!(sound[CIRCUIT_RESERVED..], [0; 20]);
+    assert_eq!(check(&sound), VALID);
+    assert_eq!(
+        lamps(&sound),
+        LampsReading::default(),
+        "the circuit is held"
+    );
+
+    let changed = |changes: &[(usize, u8)]| {
+        let mut table = sound;
+        for &(place, octet) in changes {
+            table[place] = octet;
+        }
+        table
+    };
+    let by_call_2 = (CIRCUIT_RESERVATION_REFERENCE, 2);
+    for (changes, number) in [
+        (&[(CIRCUIT_HOLDER_LEVEL, 14)][..], FLAG_OR_LEVEL),
+        (&[(CIRCUIT_HOLDER_LEVEL, 16)], FLAG_OR_LEVEL),
+        (&[(CIRCUIT_HOLDER_DOMAIN + 4, 1)], FLAG_OR_LEVEL),
+        (&[(CIRCUIT_HOLDER_DOMAIN, 0xa0)], FLAG_OR_LEVEL),
+        (
+            &[(CIRCUIT_RESERVED, 1), (CIRCUIT_RESERVATION_LEVEL, 15)],
+            FLAG_OR_LEVEL,
+        ),
+        (&[(CIRCUIT_RESERVATION_LEVEL, 15)], NOT_ZERO),
+        (&[(CIRCUIT_RESERVED, 1), by_call_2], NOT_ABOVE_HOLDER),
+        (
+            &[
+                (CIRCUIT_RESERVED, 1),
+                (CIRCUIT_RESERVATION_DOMAIN + 4, 1),
+                by_call_2,
+            ],
+            NOT_ABOVE_HOLDER,
+        ),
+    ] {
+        refused_everywhere(&changed(changes), number, 0);
+    }
+}

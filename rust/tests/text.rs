@@ -42,8 +42,9 @@ fn enums_there_and_back() {
             Reason::ALL.len(),
             Refusal::ALL.len()
         ),
-        (5, 3, 5, 5, 12)
+        (5, 3, 6, 5, 12)
     );
+    assert_eq!(Level::from_number(NO_PRECEDENCE), None);
 }
 
 #[test]
@@ -53,12 +54,22 @@ fn texts() {
         ("SEIZED_WITH_LOSS", "the clock was looked at")
     );
     assert_eq!(
+        (number_name(8), number_meaning(8)),
+        (
+            "UNMARKED",
+            "the holder stays, without a precedence; a reservation above it is lost"
+        )
+    );
+    assert_eq!(
         (number_name(60), number_meaning(60)),
         ("TOO_MANY_LISTS", "a list too many: the totals take no more")
     );
     assert_eq!(
         (cause_name(46), cause_meaning(46)),
-        ("CAUSE_PRECEDENCE_CALL_BLOCKED", "precedence call blocked, for a higher level")
+        (
+            "CAUSE_PRECEDENCE_CALL_BLOCKED",
+            "precedence call blocked, for a higher level"
+        )
     );
     assert_eq!(
         (level_name(0), level_meaning(0)),
@@ -73,7 +84,15 @@ fn texts() {
         ("LOOK_AHEAD", "look-ahead")
     );
     assert_eq!(
-        (number_name(8), number_meaning(8)),
+        (level_name(15), level_meaning(15)),
+        ("NO_PRECEDENCE", "NO PRECEDENCE")
+    );
+    assert_eq!(
+        (kind_name(6), kind_meaning(6)),
+        ("NO_SERVICE", "no-service")
+    );
+    assert_eq!(
+        (number_name(21), number_meaning(21)),
         ("UNKNOWN", "unknown number")
     );
     assert_eq!(
@@ -85,7 +104,7 @@ fn texts() {
         ("UNKNOWN", "unknown level")
     );
     assert_eq!((lfb_name(3), lfb_meaning(3)), ("UNKNOWN", "unknown LFB"));
-    assert_eq!((kind_name(0), kind_meaning(6)), ("UNKNOWN", "unknown kind"));
+    assert_eq!((kind_name(0), kind_meaning(0)), ("UNKNOWN", "unknown kind"));
     assert_eq!(
         (Level::Routine.name(), Kind::SetUp.to_string()),
         ("ROUTINE", String::from("set-up"))

@@ -1,7 +1,7 @@
 // Tables with something wrong, or that seems so, at every entry that takes a table.
 
 use crate::case::{self, Application, Case};
-use crate::independent::{ANSWER, CIRCUIT};
+use crate::independent::{ANSWER, CIRCUIT, NO_PRECEDENCE};
 use crate::random::Random;
 use crate::traffic::{some_size, Route};
 
@@ -14,7 +14,7 @@ fn wrong_flag_or_level(random: &mut Random, record: &mut [u8]) {
         record[part] = random.pick(&[2, 3, 16, 128, 254, 255]);
     } else {
         record[part] = 1;
-        record[part + 1] = random.pick(&[5, 6, 15, 16, 128, 255]);
+        record[part + 1] = random.pick(&[5, 6, 14, 15, 16, 128, 255]);
     }
 }
 
@@ -59,12 +59,35 @@ fn not_above_holder(random: &mut Random, record: &mut [u8]) {
     }
 }
 
+// A part with the level of a mark that came off: its flag 1 or 0, its domain zero, zero but for an octet, or as it was. Most often it is the
+// holder's, with no reservation above it, with one in the zero domain, or with what was there. Some of these holders are right.
+fn without_mark(random: &mut Random, record: &mut [u8]) {
+    let part = random.pick(&[0, 0, 0, 12]);
+    record[part] = random.pick(&[0, 1, 1, 1]);
+    record[part + 1] = NO_PRECEDENCE;
+    if !random.once_in(4) {
+        record[part + 2..part + 7].fill(0);
+    }
+    if random.once_in(4) {
+        record[part + 2 + random.below(5)] = random.octet();
+    }
+    match (part, random.below(3)) {
+        (0, 0) => record[12..28].fill(0),
+        (0, 1) => {
+            record[12..14].copy_from_slice(&[1, random.below(5) as u8]);
+            record[14..19].fill(0);
+        }
+        _ => {}
+    }
+}
+
 fn spoil(random: &mut Random, record: &mut [u8]) {
-    match random.below(5) {
+    match random.below(6) {
         0 => wrong_flag_or_level(random, record),
         1 => wrong_digit_or_point_code(random, record),
         2 => not_zero(random, record),
         3 => not_above_holder(random, record),
+        4 => without_mark(random, record),
         _ => record[random.below(CIRCUIT)] ^= 1 << random.below(8),
     }
 }
@@ -130,7 +153,7 @@ pub fn every_octet(random: &mut Random, give: &mut dyn FnMut(Case)) {
     for place in record..record + CIRCUIT {
         let mut damaged = table.clone();
         let any = random.octet();
-        damaged[place] = random.pick(&[0, 1, 2, 4, 5, 0x09, 0x0a, 0x3f, 0x40, 0x80, 0x90, 0xa0, 0xff, any]);
+        damaged[place] = random.pick(&[0, 1, 2, 4, 5, 0x09, 0x0a, 14, 15, 16, 0x3f, 0x40, 0x80, 0x90, 0xa0, 0xff, any]);
         give(case::check(random, &damaged));
     }
 }

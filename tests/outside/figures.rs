@@ -1,6 +1,6 @@
 // Document 02's L1, the day's figures, read a second time: what a list adds to the totals is counted in its table before it and after it,
 // in its events and in their answers. The loser's level stands in no answer: it is kept here by the call's reference, from the table at the
-// start or from the call's own set-up on.
+// start or from the call's own set-up on. A holder whose mark came off is never lost, so what level is kept of it does not matter.
 
 use std::collections::BTreeMap;
 

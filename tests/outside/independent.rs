@@ -1,10 +1,12 @@
-// Document 01 and document 02's L2 read a second time: an implementation that shares nothing with the library, in the words of the
+// Document 01 and document 02's L2 and L4 read a second time: an implementation that shares nothing with the library, in the words of the
 // documents and with no eye on cost. Tables and events become plain values, the rules work on these, and the result becomes octets again.
 
 use std::cmp::Reverse;
 use std::collections::BTreeSet;
 
 pub const ROUTINE: u8 = 4;
+// The level of a holder whose mark came off.
+pub const NO_PRECEDENCE: u8 = 15;
 pub const RESERVATION_LIMIT: u32 = 3000;
 pub const CIRCUIT: usize = 32;
 pub const EVENT: usize = 16;
@@ -28,9 +30,16 @@ pub struct Call {
     pub reference: Reference,
 }
 
+// By 02's L4 "the circuits' marks come off" where the called party is without the service: then a holder has none.
+#[derive(Clone, Copy, PartialEq, Eq, Debug)]
+pub struct Holder {
+    pub mark: Option<Mark>,
+    pub reference: Reference,
+}
+
 #[derive(Clone, Copy, PartialEq, Eq, Debug, Default)]
 pub struct Circuit {
-    pub holder: Option<Call>,
+    pub holder: Option<Holder>,
     pub reservation: Option<(Call, u32)>,
 }
 
@@ -39,27 +48,38 @@ impl Mark {
     fn above(&self, other: &Mark) -> bool {
         self.domain == other.domain && self.level < other.level
     }
+
+    // Above no holder without a mark, "also where the call's domain is zero".
+    fn above_holder(&self, holder: &Holder) -> bool {
+        holder.mark.map_or(false, |mark| self.above(&mark))
+    }
 }
 
 impl Circuit {
+    // None where the circuit is free, and where its holder "stands there under no precedence that a call could beat".
     fn standing(&self) -> Option<Mark> {
         match (self.reservation, self.holder) {
             (Some((call, _)), _) => Some(call.mark),
-            (None, Some(call)) => Some(call.mark),
+            (None, Some(holder)) => holder.mark,
             (None, None) => None,
         }
     }
 
     fn is_free(&self) -> bool {
-        self.standing().is_none()
+        self.holder.is_none() && self.reservation.is_none()
     }
 
     fn held_by(&self, reference: Reference) -> bool {
-        self.holder.map_or(false, |call| call.reference == reference)
+        self.holder.map_or(false, |holder| holder.reference == reference)
     }
 
     fn reserved_by(&self, reference: Reference) -> bool {
         self.reservation.map_or(false, |(call, _)| call.reference == reference)
+    }
+
+    // The holder's, then the reservation's.
+    fn references(&self) -> impl Iterator<Item = Reference> {
+        self.holder.map(|holder| holder.reference).into_iter().chain(self.reservation.map(|(call, _)| call.reference))
     }
 }
 
@@ -178,9 +198,18 @@ fn read_call(part: &[u8]) -> Call {
     Call { mark: Mark { level: part[1], domain: five(&part[2..7]) }, reference: five(&part[7..12]) }
 }
 
-// "a flag wrong, or the level of a present part"
-fn flag_or_level_wrong(part: &[u8]) -> bool {
-    ![0, 1].contains(&part[0]) || is_present(part) && ![0, 1, 2, 3, 4].contains(&part[1])
+fn read_holder(part: &[u8]) -> Holder {
+    let Call { mark, reference } = read_call(part);
+    Holder { mark: (mark.level != NO_PRECEDENCE).then(|| mark), reference }
+}
+
+// "a flag wrong, or the level of a present part"; "A table may hold level 15 with zero domain in the holder part only (else 41)"
+fn flag_or_level_wrong(record: &[u8]) -> bool {
+    let [holder, reservation] = parts(record);
+    let flag_wrong = |part: &[u8]| ![0, 1].contains(&part[0]);
+    let level_wrong = |part: &[u8]| is_present(part) && ![0, 1, 2, 3, 4].contains(&part[1]);
+    let without_mark = holder[1] == NO_PRECEDENCE && zero(&holder[2..7]);
+    flag_wrong(holder) || flag_wrong(reservation) || level_wrong(holder) && !without_mark || level_wrong(reservation)
 }
 
 // "a digit or point code of a present part wrong"
@@ -193,16 +222,16 @@ fn not_zero(record: &[u8]) -> bool {
     parts(record).iter().any(|part| part[0] == 0 && !zero(part)) || !zero(&record[28..])
 }
 
-// "a reservation not strictly above its holder in the same domain"
+// "a reservation not strictly above its holder in the same domain"; level 15 "with no reservation above (else 44)"
 fn not_above_holder(record: &[u8]) -> bool {
     let [holder, reservation] = parts(record);
-    is_present(holder) && is_present(reservation) && !read_call(reservation).mark.above(&read_call(holder).mark)
+    is_present(holder) && is_present(reservation) && !read_call(reservation).mark.above_holder(&read_holder(holder))
 }
 
 // Every reason that a record has by itself.
 fn reasons(record: &[u8]) -> impl Iterator<Item = u8> {
     let has = [
-        (41, parts(record).into_iter().any(flag_or_level_wrong)),
+        (41, flag_or_level_wrong(record)),
         (42, parts(record).into_iter().any(digit_or_point_code_wrong)),
         (43, not_zero(record)),
         (44, not_above_holder(record)),
@@ -221,7 +250,7 @@ fn read_circuit(record: &[u8]) -> Circuit {
     let [holder, reservation] = parts(record);
     let clock = four_octet_number(&reservation[12..]);
     Circuit {
-        holder: is_present(holder).then(|| read_call(holder)),
+        holder: is_present(holder).then(|| read_holder(holder)),
         reservation: is_present(reservation).then(|| (read_call(reservation), clock)),
     }
 }
@@ -231,8 +260,8 @@ fn read_circuit(record: &[u8]) -> Circuit {
 fn repeated_reference(circuits: &[Circuit]) -> Option<Bad> {
     let mut earlier = BTreeSet::new();
     for (record, circuit) in circuits.iter().enumerate() {
-        for call in circuit.holder.iter().chain(circuit.reservation.iter().map(|(call, _)| call)) {
-            if !earlier.insert(call.reference) {
+        for reference in circuit.references() {
+            if !earlier.insert(reference) {
                 return Some(Bad { reason: 45, record });
             }
         }
@@ -252,13 +281,16 @@ pub fn read_table(table: &[u8]) -> Result<Vec<Circuit>, Bad> {
     }
 }
 
-fn write_call(octets: &mut Vec<u8>, call: Option<&Call>) {
-    match call {
+// "the holder's level becomes 15 and its domain zero": so a mark that came off stands in a table.
+const WITHOUT_MARK: Mark = Mark { level: NO_PRECEDENCE, domain: [0; 5] };
+
+fn write_part(octets: &mut Vec<u8>, part: Option<(Mark, Reference)>) {
+    match part {
         None => octets.extend([0; 12]),
-        Some(call) => {
-            octets.extend([1, call.mark.level]);
-            octets.extend(call.mark.domain);
-            octets.extend(call.reference);
+        Some((mark, reference)) => {
+            octets.extend([1, mark.level]);
+            octets.extend(mark.domain);
+            octets.extend(reference);
         }
     }
 }
@@ -266,8 +298,8 @@ fn write_call(octets: &mut Vec<u8>, call: Option<&Call>) {
 pub fn write_table(circuits: &[Circuit]) -> Vec<u8> {
     let mut octets = Vec::new();
     for circuit in circuits {
-        write_call(&mut octets, circuit.holder.as_ref());
-        write_call(&mut octets, circuit.reservation.as_ref().map(|(call, _)| call));
+        write_part(&mut octets, circuit.holder.map(|holder| (holder.mark.unwrap_or(WITHOUT_MARK), holder.reference)));
+        write_part(&mut octets, circuit.reservation.map(|(call, _)| (call.mark, call.reference)));
         octets.extend(circuit.reservation.map_or(0, |(_, clock)| clock).to_le_bytes());
         octets.extend([0; 4]);
     }
@@ -316,6 +348,7 @@ enum Event {
     LookAhead(Call, u8, u32),
     Cancel(Reference),
     Clock(u32),
+    NoService(Reference),
 }
 
 // None where the event is malformed.
@@ -332,6 +365,7 @@ fn read_event(octets: &[u8]) -> Option<Event> {
         3 if number == 0 => Some(Event::LookAhead(call, precedence.lfb, clock)),
         4 if zero(parameter) => Some(Event::Cancel(reference)),
         5 if zero(&octets[1..12]) => Some(Event::Clock(clock)),
+        6 if zero(parameter) => Some(Event::NoService(reference)),
         _ => None,
     }
 }
@@ -389,7 +423,7 @@ fn set_up(circuits: &mut [Circuit], call: Call) -> Answer {
         if reserver.mark != call.mark {
             return refused(26);
         }
-        if circuits[place].holder.map_or(false, |holder| !call.mark.above(&holder.mark)) {
+        if circuits[place].holder.map_or(false, |holder| !call.mark.above_holder(&holder)) {
             return refused(28);
         }
     }
@@ -397,7 +431,8 @@ fn set_up(circuits: &mut [Circuit], call: Call) -> Answer {
         Some(place) => place,
         None => return refused(if call.mark.level == ROUTINE { 30 } else { 31 }),
     };
-    let before = std::mem::replace(&mut circuits[place], Circuit { holder: Some(call), reservation: None });
+    let holder = Holder { mark: Some(call.mark), reference: call.reference };
+    let before = std::mem::replace(&mut circuits[place], Circuit { holder: Some(holder), reservation: None });
     let lost_call = before.holder.map(|holder| holder.reference);
     let lost_reservation = before.reservation.map(|(reserver, _)| reserver.reference).filter(|&r| r != call.reference);
     let number = if lost_call.is_some() || lost_reservation.is_some() { 2 } else { 1 };
@@ -444,6 +479,18 @@ fn cancel(circuits: &mut [Circuit], reference: Reference) -> Answer {
     }
 }
 
+// "a reservation above it is lost and named in octets 10-15. A second such event changes nothing and is accepted."
+fn no_service(circuits: &mut [Circuit], reference: Reference) -> Answer {
+    match circuits.iter().position(|c| c.held_by(reference)) {
+        None => refused(27),
+        Some(place) => {
+            circuits[place].holder = Some(Holder { mark: None, reference });
+            let lost_reservation = circuits[place].reservation.take().map(|(reserver, _)| reserver.reference);
+            Answer { number: 8, place: Some(place), lost_call: None, lost_reservation }
+        }
+    }
+}
+
 fn take_clock(circuits: &mut [Circuit], clock: u32) -> Answer {
     let mut removed = 0;
     for circuit in circuits {
@@ -467,6 +514,7 @@ fn apply(table: &mut [u8], event: &[u8], answer: &mut [u8]) {
                 Event::LookAhead(call, lfb, clock) => look_ahead(&mut circuits, call, lfb, clock),
                 Event::Cancel(reference) => cancel(&mut circuits, reference),
                 Event::Clock(clock) => take_clock(&mut circuits, clock),
+                Event::NoService(reference) => no_service(&mut circuits, reference),
             };
             table.copy_from_slice(&write_table(&circuits));
             given

@@ -1,4 +1,4 @@
-// Holds the library, which a program serves over pipes, to an independent implementation of document 01 and of document 02's L1 and L2.
+// Holds the library, which a program serves over pipes, to an independent implementation of document 01 and of document 02's L1, L2 and L4.
 //
 //   outside SEED rounds COUNT SERVER..      so many rounds
 //   outside SEED seconds COUNT SERVER..     rounds for so long, with a line now and then

@@ -1,5 +1,5 @@
-// P1 to P12 and the paper's other examples, copied from document 01 by hand, the figures of its nine events, and bad tables worked out by the
-// words of document 02's L2: the independent implementation is held to them first.
+// P1 to P12 and the paper's other examples, copied from document 01 by hand, the figures of its nine events, bad tables worked out by the
+// words of document 02's L2 and L4, and events by those of L4: the independent implementation is held to them first.
 
 use crate::independent::Check;
 use crate::{figures, independent};
@@ -7,7 +7,9 @@ use crate::{figures, independent};
 const SET_UP: u8 = 1;
 const RELEASE: u8 = 2;
 const LOOK_AHEAD: u8 = 3;
+const CANCEL: u8 = 4;
 const CLOCK: u8 = 5;
+const NO_SERVICE: u8 = 6;
 
 // Kind, level, call identity, clock; zero domain, point code 1, LFB allowed.
 fn event(kind: u8, level: u8, identity: u8, clock: u32) -> [u8; 16] {
@@ -22,11 +24,16 @@ fn event(kind: u8, level: u8, identity: u8, clock: u32) -> [u8; 16] {
     octets
 }
 
-// Answer, cause, number and the lost call's identity, as a line of the program's output has them.
-fn line(table: &mut [u8], event: [u8; 16]) -> (u8, u8, u16, u8) {
+fn answer(table: &mut [u8], event: [u8; 16]) -> [u8; 16] {
     let mut answer = [0xff; 16];
     let number = independent::event(table, &event, &mut answer);
     assert_eq!(number, answer[0]);
+    answer
+}
+
+// Answer, cause, number and the lost call's identity, as a line of the program's output has them.
+fn line(table: &mut [u8], event: [u8; 16]) -> (u8, u8, u16, u8) {
+    let answer = answer(table, event);
     assert!(answer[10..].iter().all(|&o| o == 0));
     (answer[0], answer[1], u16::from_le_bytes([answer[2], answer[3]]), answer[5])
 }
@@ -87,7 +94,8 @@ const ONE_FAULT: &[BadTable] = &[
     (&[(76, 2)], 41, 2),
     (&[(1, 5)], 41, 0),
     (&[(13, 5)], 41, 0),
-    (&[(33, 15)], 41, 1),
+    (&[(33, 14)], 41, 1),
+    (&[(33, 16)], 41, 1),
     (&[(2, 0xa0)], 42, 0),
     (&[(2, 0x0a)], 42, 0),
     (&[(3, 0xa0)], 42, 0),
@@ -113,6 +121,29 @@ const ONE_FAULT: &[BadTable] = &[
     (&[(19, 1)], 45, 0),
 ];
 
+// Level 15: in the holder's part, the reservation's and an absent one, in the zero domain and another, with a reservation above and without.
+const WITHOUT_MARK: &[BadTable] = &[
+    (&[(33, 15)], 0, 65535),
+    (&[(33, 15), (38, 1)], 41, 1),
+    (&[(33, 15), (34, 0x10)], 41, 1),
+    (&[(33, 15), (34, 0xa0)], 41, 1),
+    (&[(33, 15), (43, 0x40)], 42, 1),
+    (&[(33, 15), (60, 1)], 43, 1),
+    (&[(33, 15), (39, 1)], 45, 1),
+    (&[(13, 15)], 41, 0),
+    (&[(76, 1), (77, 15)], 41, 2),
+    (&[(65, 15)], 43, 2),
+    (&[(77, 15)], 43, 2),
+    (&[(1, 15)], 44, 0),
+    (&[(1, 15), (13, 4)], 44, 0),
+    (&[(1, 15), (18, 1)], 44, 0),
+    (&[(1, 15), (19, 1)], 44, 0),
+    (&[(1, 15), (13, 15)], 41, 0),
+    (&[(1, 15), (6, 1), (18, 1)], 41, 0),
+    (&[(1, 15), (14, 0xa0)], 42, 0),
+    (&[(1, 15), (28, 1)], 43, 0),
+];
+
 // Several things wrong: in one record, in two, and references that stand in an earlier part.
 const MORE_FAULTS: &[BadTable] = &[
     (&[(2, 0xa0), (13, 5)], 41, 0),
@@ -135,7 +166,7 @@ const MORE_FAULTS: &[BadTable] = &[
 
 // The check names the record; so does each event that is not malformed, and none changes the table.
 fn hold_bad_tables() {
-    for &(changes, number, record) in ONE_FAULT.iter().chain(MORE_FAULTS) {
+    for &(changes, number, record) in ONE_FAULT.iter().chain(WITHOUT_MARK).chain(MORE_FAULTS) {
         let mut table = three_records(changes);
         assert_eq!(independent::check(&table), Check { number, record }, "{:?}", changes);
         if number == 0 {
@@ -147,6 +178,40 @@ fn hold_bad_tables() {
     }
 }
 
+// The marks of all three circuits come off, one with the reservation above it, and no call of the zero domain takes them any more.
+fn hold_no_service() {
+    let table = &mut three_records(&[]);
+    assert_eq!(line(table, event(NO_SERVICE, 0, 2, 0)), (27, 0, 65535, 0));
+    assert_eq!(line(table, event(NO_SERVICE, 1, 1, 0)), (22, 0, 65535, 0));
+    assert_eq!(table, &three_records(&[]));
+    assert_eq!(answer(table, event(NO_SERVICE, 0, 1, 0)), [8, 0, 0, 0, 0, 0, 0, 0, 0, 0, 1, 2, 0, 0, 1, 0]);
+    let without_mark = three_records(&[(1, 15), (12, 0), (13, 0), (19, 0), (22, 0), (24, 0)]);
+    assert_eq!(table, &without_mark);
+    assert_eq!(line(table, event(NO_SERVICE, 0, 1, 7)), (8, 0, 0, 0));
+    assert_eq!(table, &without_mark);
+
+    let later = [
+        (event(SET_UP, 0, 4, 0), (1, 0, 2, 0)),
+        (event(SET_UP, 1, 5, 0), (2, 0, 1, 3)),
+        (event(NO_SERVICE, 0, 3, 0), (27, 0, 65535, 0)),
+        (event(NO_SERVICE, 0, 5, 0), (8, 0, 1, 0)),
+        (event(NO_SERVICE, 0, 4, 0), (8, 0, 2, 0)),
+        (event(SET_UP, 0, 6, 0), (31, 46, 65535, 0)),
+        (event(SET_UP, 4, 6, 0), (30, 34, 65535, 0)),
+        (event(LOOK_AHEAD, 0, 6, 0), (32, 0, 65535, 0)),
+        (event(SET_UP, 0, 1, 0), (25, 0, 65535, 0)),
+        (event(SET_UP, 15, 1, 0), (22, 0, 65535, 0)),
+        (event(LOOK_AHEAD, 0, 1, 0), (25, 0, 65535, 0)),
+        (event(LOOK_AHEAD, 4, 1, 0), (24, 0, 65535, 0)),
+        (event(CANCEL, 0, 1, 0), (27, 0, 65535, 0)),
+        (event(RELEASE, 0, 1, 0), (5, 0, 0, 0)),
+        (event(SET_UP, 4, 6, 0), (1, 0, 0, 0)),
+    ];
+    for (event, wanted) in later {
+        assert_eq!(line(table, event), wanted);
+    }
+}
+
 pub fn hold() {
     let table = &mut [0; 64];
     for (event, wanted) in listing() {
@@ -154,6 +219,7 @@ pub fn hold() {
     }
     hold_figures();
     hold_bad_tables();
+    hold_no_service();
 
     for (reserved, clock, removed) in [(4294967000, 2703, 0), (4294967000, 2704, 1), (100, 99, 1)] {
         let table = &mut [0; 32];

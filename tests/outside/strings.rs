@@ -36,6 +36,7 @@ fn precedence(random: &mut Random) -> Precedence {
         *digit = random.below(10) as u8;
     }
     match random.below(8) {
+        0 if random.once_in(2) => value.level = random.pick(&[14, 15, 16]),
         0 => value.level = number_near(random, 4) as u8,
         1 => value.lfb = number_near(random, 2) as u8,
         2 => value.digits[random.below(4)] = number_near(random, 9) as u8,
@@ -85,7 +86,7 @@ fn event(random: &mut Random, table: &[u8]) -> Vec<u8> {
         return Route::new(random).event(random, table).to_vec();
     }
     let mut octets = random.octets(EVENT);
-    octets[0] = random.below(7) as u8;
+    octets[0] = random.below(8) as u8;
     if random.once_in(2) {
         octets[1] &= 0x97;
         octets[2] &= 0x77;

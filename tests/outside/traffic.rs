@@ -3,7 +3,8 @@
 use std::collections::BTreeSet;
 
 use crate::case::{Application, Case};
-use crate::independent::{self, five, Call, Circuit, Domain, Mark, Reference, ANSWER, CIRCUIT, EVENT, RESERVATION_LIMIT, ROUTINE};
+use crate::independent::{self, five, Call, Circuit, Domain, Holder, Mark, Reference};
+use crate::independent::{ANSWER, CIRCUIT, EVENT, NO_PRECEDENCE, RESERVATION_LIMIT, ROUTINE};
 use crate::random::Random;
 
 // What the calls of one route have in common.
@@ -12,6 +13,8 @@ pub struct Route {
     clock: u32,
     set_ups_in_ten: usize,
     highest: u8,
+    // Of ten holders that a table begins with, so many have their mark off; of ten events about calls that are there, so many take it off.
+    without_service_in_ten: usize,
 }
 
 fn some_domain(random: &mut Random) -> Domain {
@@ -38,10 +41,15 @@ impl Route {
         let mut domains = vec![if random.once_in(4) { [0; 5] } else { some_domain(random) }];
         for _ in 0..random.below(4) {
             let known = random.pick(&domains);
-            domains.push(if random.once_in(3) { some_domain(random) } else { next_domain(random, known) });
+            domains.push(match random.below(4) {
+                0 => [0; 5],
+                1 => some_domain(random),
+                _ => next_domain(random, known),
+            });
         }
         let clock = if random.once_in(2) { u32::MAX - random.below(9000) as u32 } else { random.next() as u32 };
-        Route { domains, clock, set_ups_in_ten: 4 + random.below(5), highest: random.below(4) as u8 }
+        let (set_ups_in_ten, highest) = (4 + random.below(5), random.below(4) as u8);
+        Route { domains, clock, set_ups_in_ten, highest, without_service_in_ten: random.pick(&[0, 1, 2, 5]) }
     }
 
     // The first domain is the commonest.
@@ -64,20 +72,23 @@ impl Route {
     // A valid table with about `held` circuits in eight held and `reserved` in eight reserved.
     pub fn table(&self, random: &mut Random, circuits: usize, held: usize, reserved: usize) -> Vec<u8> {
         let mut seen = BTreeSet::new();
-        let mut call = |random: &mut Random, level: u8, domain: Domain| loop {
+        let mut new_reference = |random: &mut Random| loop {
             let reference = some_reference(random);
             if seen.insert(reference) {
-                return Call { mark: Mark { level, domain }, reference };
+                return reference;
             }
         };
         let table: Vec<Circuit> = (0..circuits)
             .map(|_| {
                 let (level, domain) = (self.level(random), self.domain(random));
-                let holder = if random.below(8) < held { Some(call(random, level, domain)) } else { None };
-                let reserved = random.below(8) < reserved && (holder.is_none() || level > 0);
-                let reserver = if holder.is_none() { level } else { random.below(level.max(1) as usize) as u8 };
+                let (held, without_mark) = (random.below(8) < held, random.below(10) < self.without_service_in_ten);
+                let mark = if without_mark { None } else { Some(Mark { level, domain }) };
+                let holder = if held { Some(Holder { mark, reference: new_reference(random) }) } else { None };
+                let reserved = random.below(8) < reserved && (!held || !without_mark && level > 0);
+                let reserver = if held { random.below(level.max(1) as usize) as u8 } else { level };
                 let clock = self.clock.wrapping_sub(random.below(4000) as u32);
-                let reservation = if reserved { Some((call(random, reserver, domain), clock)) } else { None };
+                let mark = Mark { level: reserver, domain };
+                let reservation = if reserved { Some((Call { mark, reference: new_reference(random) }, clock)) } else { None };
                 Circuit { holder, reservation }
             })
             .collect();
@@ -104,6 +115,7 @@ impl Route {
         let mut event = [0; EVENT];
         let kind = match random.below(10) {
             n if n < self.set_ups_in_ten => random.pick(&[1, 1, 1, 3, 3]),
+            _ if random.below(10) < self.without_service_in_ten => 6,
             _ => random.pick(&[2, 2, 2, 2, 2, 4, 4, 3, 3, 5]),
         };
         let clock = self.clock(random, table);
@@ -128,14 +140,15 @@ impl Route {
         event
     }
 
-    // A set-up or look-ahead is most often of a new call, or on its own reservation; others are of a call that is there.
+    // A set-up or look-ahead is most often of a new call, or on its own reservation; others are of a call that is there. The level of a holder
+    // whose mark is off goes into a set-up seldom: it is no call's, and makes the event malformed.
     fn name_a_call(&self, random: &mut Random, table: &[u8], event: &mut [u8; EVENT]) {
         let there = match (event[0], random.below(8)) {
             (1, 0) | (3, 0) => Some(0),
             (1, 1) | (1, 2) | (3, 1) => Some(12),
             (1, _) | (3, _) | (_, 0) => None,
-            (2, 1) => Some(12),
-            (2, _) => Some(0),
+            (2 | 6, 1) => Some(12),
+            (2 | 6, _) => Some(0),
             (_, 1) => Some(0),
             (_, _) => Some(12),
         };
@@ -143,7 +156,7 @@ impl Route {
             None => event[7..12].copy_from_slice(&some_reference(random)),
             Some(part) => {
                 event[7..12].copy_from_slice(&part[7..12]);
-                if event[0] == 1 && !random.once_in(4) {
+                if event[0] == 1 && random.below(4) < if part[1] == NO_PRECEDENCE { 1 } else { 3 } {
                     event[1] = event[1] & 0xf0 | part[1];
                     event[2..7].copy_from_slice(&part[2..7]);
                     if random.once_in(8) {
@@ -223,12 +236,13 @@ fn some_part<'a>(random: &mut Random, table: &'a [u8], part: usize) -> Option<&'
 
 // An event with something wrong, or that seems so.
 fn spoil(random: &mut Random, event: &mut [u8; EVENT]) {
-    match random.below(6) {
+    match random.below(7) {
         0 => event[0] = random.octet(),
         1 => event[1] = random.octet(),
-        2 => event[1] |= 0x60,
+        2 => event[1] |= random.pick(&[0x60, 0x80, 0x10]),
         3 => event[2 + random.below(2)] = random.octet(),
         4 => event[1 + random.below(11)] ^= 1 << random.below(8),
+        5 => event[1] |= NO_PRECEDENCE,
         _ => event[0] = random.below(8) as u8,
     }
 }

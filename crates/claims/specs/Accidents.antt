@@ -1,5 +1,5 @@
 -- The customer's two accidents cannot happen: a mark left on a circuit whose party is gone, and a reservation gone for no reason. Nor is
--- a holder gone for none, and no call is in two parts.
+-- a holder gone for none, or taken after its mark came off, and no call is in two parts.
 use Prim.Native.Nat.{ℕ, _+_, _-_, _%_, _<_, _≤_}
 use mathlib.Core.Path.{_≡_}
 use mathlib.Core.Logic.{_⊎_}
