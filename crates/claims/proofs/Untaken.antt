@@ -71,6 +71,10 @@ comes-off p y eight there =
     ∙ ap (λ (b : Bool). cond b (named (asked p) 8 y) y .holder) (eq-eqb c c refl)
     ∙ (λ d. record { present = there .0 d; mark = noPrecedence; reference = there .1 d })
 
+-- a turn at the end of some is before the others
+one-on : (before : List Turn) (p : Turn) (ps : List Turn) → (before ++ p ∷ []) ++ ps ≡ before ++ p ∷ ps
+one-on before p = append-assoc before (p ∷ [])
+
 -- ---- from then on
 module _ (n : ℕ) (lists : List EventList) (c : ℕ) (l : c < n) (r : List ℕ) where
   -- at one turn such a holder stays, or is released
@@ -96,41 +100,34 @@ module _ (n : ℕ) (lists : List EventList) (c : ℕ) (l : c < n) (r : List ℕ)
           }
       gone (higher-set-up k two taken level) = absurd (let z = ap (λ (q : Part). q .mark .level .0) h in omega arith)
 
-  -- what is released among some turns is released among more
-  among-more : (ps qs : List Turn) → ReleasedAmong c r ps → ReleasedAmong c r (ps ++ qs)
-  among-more ps qs g =
+  -- the same release among more turns
+  among : {ps qs : List Turn} (g : ReleasedAmong c r ps) (before later : List Turn) → qs ≡ before ++ g .turn ∷ later → ReleasedAmong c r qs
+  among g before later split =
       record {
-        before = g .before;
+        before = before;
         turn = g .turn;
-        later = g .later ++ qs;
-        split = ap (λ (os : List Turn). os ++ qs) (g .split) ∙ append-assoc (g .before) (g .turn ∷ g .later) qs;
+        later = later;
+        split = split;
         kind = g .kind;
         reference = g .reference;
         answer = g .answer;
         named = g .named;
       }
 
+  among-more : (ps qs : List Turn) → ReleasedAmong c r ps → ReleasedAmong c r (ps ++ qs)
+  among-more ps qs g =
+      among g (g .before) (g .later ++ qs) (ap (λ (os : List Turn). os ++ qs) (g .split) ∙ append-assoc (g .before) (g .turn ∷ g .later) qs)
+
   among-after : (p : Turn) (ps : List Turn) → ReleasedAmong c r ps → ReleasedAmong c r (p ∷ ps)
-  among-after p ps g =
-      record {
-        before = p ∷ g .before;
-        turn = g .turn;
-        later = g .later;
-        split = ap (λ (os : List Turn). p ∷ os) (g .split);
-        kind = g .kind;
-        reference = g .reference;
-        answer = g .answer;
-        named = g .named;
-      }
+  among-after p ps g = among g (p ∷ g .before) (g .later) (ap (λ (os : List Turn). p ∷ os) (g .split))
 
   keeps : (since before later : List Turn) → past (emptyTable n) lists ≡ before ++ (since ++ later) → history before c .holder ≡ off r → (history (before ++ since) c .holder ≡ off r) ⊎ ReleasedAmong c r since
   keeps [] before later split h = inl (ap (λ (ps : List Turn). history ps c .holder) (append-nil before) ∙ h)
   keeps (p ∷ since) before later split h =
       ⊎-elim
       (λ s.
-      let more : (ps : List Turn) → (before ++ p ∷ []) ++ ps ≡ before ++ p ∷ ps = append-assoc before (p ∷ []) in
-      ⊎-elim (λ z. inl (ap (λ (ps : List Turn). history ps c .holder) (sym (more since)) ∙ z)) (λ g. inr (among-after p since g))
-      (keeps since (before ++ p ∷ []) later (split ∙ sym (more (since ++ later))) s))
+      ⊎-elim (λ z. inl (ap (λ (ps : List Turn). history ps c .holder) (sym (one-on before p since)) ∙ z)) (λ g. inr (among-after p since g))
+      (keeps since (before ++ p ∷ []) later (split ∙ sym (one-on before p (since ++ later))) s))
       (λ g. inr (among-more (p ∷ []) since g))
       (at-turn before p (since ++ later) split h)
 
@@ -142,7 +139,6 @@ never-taken n lists before p since later split eight =
     let h = held-there (s .table) p (s .answer) eight in
     let within : c < circuits t = let long = s .shows .as-long in omega (arith, h .0) in
     let there = subst (λ (y : Circuit). StandsIn (asked p .reference) (y .holder)) (s .shows .tells c within) (h .1) in
-    let more : (ps : List Turn) → (before ++ p ∷ []) ++ ps ≡ before ++ p ∷ ps = append-assoc before (p ∷ []) in
-    ⊎-elim (λ z. inl (ap (λ (ps : List Turn). history ps c .holder) (sym (more since)) ∙ z)) inr
-    (keeps n lists c (omega (arith, within, start-count n)) (asked p .reference) since (before ++ p ∷ []) later (split ∙ sym (more (since ++ later)))
+    ⊎-elim (λ z. inl (ap (λ (ps : List Turn). history ps c .holder) (sym (one-on before p since)) ∙ z)) inr
+    (keeps n lists c (omega (arith, within, start-count n)) (asked p .reference) since (before ++ p ∷ []) later (split ∙ sym (one-on before p (since ++ later)))
     (ap (λ (y : ℕ → Circuit). y c .holder) (history-then before p) ∙ comes-off p (history before c) eight there))
