@@ -64,10 +64,10 @@ impl Best {
     fn improved(self, here: usize, i: usize) -> Best
         ensures { λ r. ⌜ r ≡ improved self here i ⌝ }
     {
-        if self.rank < here {
-            Best { rank: here, at: i }
-        } else {
+        if here <= self.rank {
             self
+        } else {
+            Best { rank: here, at: i }
         }
     }
 

@@ -40,11 +40,10 @@ fn on_reservation(e: Event, c: Circuit, i: usize) -> Outcome
     if !e.mark.equals(c.reservation.mark) {
         return Outcome::Refuse(Refusal::MarkDiffers);
     }
-    if yields(c.holder, e.mark) {
-        Outcome::Do(Act::Seize, i)
-    } else {
-        Outcome::Refuse(Refusal::HolderNotLower)
+    if !yields(c.holder, e.mark) {
+        return Outcome::Refuse(Refusal::HolderNotLower);
     }
+    Outcome::Do(Act::Seize, i)
 }
 
 // Says why a set-up that finds no circuit is refused.
