@@ -14,7 +14,7 @@ ghost use lib.ListN.{length};
 ghost use mathlib.Core.List.{_++_};
 ghost use Rattle.octets.specs.Number.{octets};
 ghost use Rattle.octets.specs.Span.{put, zeros};
-ghost use Rattle.rules.specs.Circuit.{isOf, free, preemptable, standing, overdue};
+ghost use Rattle.rules.specs.Circuit.{sameMark, noPrecedence, isOf, free, preemptable, standing, overdue};
 ghost use Rattle.rules.specs.Standing.{standingOf};
 ghost use Rattle.rules.specs.Valid.{partNumbered};
 ghost use Rattle.rules.specs.Records.{circuitSize, circuits, partAt, circuitAt, holderOctets, reservationOctets, spareOctets, partOctets, putCircuit, flagsAt, blankAt, tableLength};
@@ -135,6 +135,19 @@ fn preemptable_at(t: &[u8], i: usize) -> bool
 {
     let level = Level::in_record(t[CIRCUIT_SIZE * i + LEVEL]);
     Standing::preemptable(held_at(t, i), level)
+}
+
+// Tells whether the holder's mark of circuit i is that of a call under no precedence.
+pub fn unmarked_at(t: &[u8], i: usize) -> bool
+    requires { ⌜ i < circuits (now t) ⌝ }
+    ensures { λ r. ⌜ r ≡ sameMark (circuitAt (now (t .entry)) i .holder .mark) noPrecedence ⌝ }
+{
+    let o = CIRCUIT_SIZE * i;
+    if t[o + LEVEL] == Level::NONE.0 {
+        octets::zero_five(t, o + DOMAIN)
+    } else {
+        false
+    }
 }
 
 // Gives the octet from which on the part of circuit i stands whose mark is the standing one: the reservation's if there is one, else the

@@ -48,6 +48,17 @@ unfolding digitOf
 digit-below Valid = omega arith
 digit-below (Fault r i) = let w = reason-within r in omega arith
 
+-- a digit of 0 is that of a valid verdict
+pub digit-zero : (v : Verdict) → digitOf v ≡ 0 → isValid v ≡ true
+unfolding digitOf
+digit-zero Valid h = refl
+digit-zero (Fault r i) h = absurd (let w = reason-within r in omega arith)
+
+pub digit-fault : (v : Verdict) → digitOf v ≢ 0 → isValid v ≡ false
+unfolding digitOf
+digit-fault Valid h = absurd (h refl)
+digit-fault (Fault r i) h = refl
+
 -- of a record that has a fault by itself, the record and the digit are the code
 by-tests : (i : ℕ) (a b c d : Bool) → let v = cond a (Fault FlagOrLevel i) (cond b (Fault DigitOrPointCode i) (cond c (Fault NotZero i) (cond d (Fault NotAbove i) Valid))) in
     isValid v ≡ false → 8 * i + digitOf v ≡ codeOf v

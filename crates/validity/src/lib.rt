@@ -1,8 +1,7 @@
-// The check of a table finds its first fault, and gives its reason and its record. Each record is first looked at part by part, which is quick;
-// the reasons are gone through, in their order, only where that finds something.
+// The check of a table finds its first fault, and gives its reason and its record. Each record is first looked at part by part, which is quick
+// and enough where every party stands under a precedence; the reasons are gone through, in their order, only where that finds something.
 use rules::answer::NO_DETAIL;
 use rules::circuit::Circuit;
-use rules::mark::Mark;
 use rules::number;
 use rules::part::Part;
 use rules::part::Reference;
@@ -16,54 +15,45 @@ ghost use mathlib.Core.Bool.{_&&_};
 ghost use Prim.Native.Nat.{_+_, _*_, _^_, _<_};
 ghost use Rattle.rules.specs.Fields.{pointCodeOk};
 ghost use Rattle.rules.specs.Valid.{ifPresent, heldUnder, reservedUnder, levelsOk, fieldsOk, pairOk, recordVerdict, recordsTo, partsTo};
-ghost use Rattle.rules.specs.Search.{firstTo};
 ghost use Rattle.rules.specs.Valid as rule;
 ghost use Rattle.rules.specs.Records.{circuitAt, circuits, flagsAt, records, checked, holderOctets};
-ghost use Rattle.validity.specs.Order.{fieldsFit, fit, partInOrder, inOrder, outOfOrder};
+ghost use Rattle.validity.specs.Order.{fieldsFit, partInOrder, inOrder};
+ghost use Rattle.validity.specs.Order as order;
 ghost use Rattle.validity.specs.Code.{reasonDigit, digitOf, codeOf, reasonOf, checkCoded};
 
-// Tells whether a holder may stand under this mark: its level is one of the five, or it is under no precedence.
-fn held_under(m: Mark) -> bool
-    ensures { λ r. ⌜ r ≡ heldUnder m ⌝ }
+// Tells whether record i has no holder, or the holder's level is as it must be: one of the five, or that of no precedence.
+fn holder_level_ok(t: &[u8], i: usize) -> bool
+    requires { ⌜ i < circuits (now t) ⌝ }
+    ensures { λ r. ⌜ r ≡ ifPresent (circuitAt (now (t .entry)) i .holder) (heldUnder (circuitAt (now (t .entry)) i .holder .mark)) ⌝ }
 {
-    if m.level.known() {
-        true
-    } else {
-        m.equals(Mark::no_precedence())
+    let p = table::holder_at(t, i);
+    if !p.present {
+        return true;
     }
+    if p.mark.level.known() {
+        return true;
+    }
+    table::unmarked_at(t, i)
 }
 
-// Tells whether a reservation may stand under this mark: its level is one of the five.
-fn reserved_under(m: Mark) -> bool
-    ensures { λ r. ⌜ r ≡ reservedUnder m ⌝ }
-{
-    m.level.known()
-}
-
-// Tells whether a holder's part is absent, or its level is as it must be.
-fn holder_level_ok(p: Part) -> bool
-    ensures { λ r. ⌜ r ≡ ifPresent p (heldUnder (p .mark)) ⌝ }
-{
-    if p.present { held_under(p.mark) } else { true }
-}
-
-// Tells whether a reservation's part is absent, or its level is as it must be.
+// Tells whether a reservation's part is absent, or its level is one of the five.
 fn reservation_level_ok(p: Part) -> bool
     ensures { λ r. ⌜ r ≡ ifPresent p (reservedUnder (p .mark)) ⌝ }
 {
     if p.present {
-        reserved_under(p.mark)
+        p.mark.level.known()
     } else {
         true
     }
 }
 
-// Tells whether the level of each part that is present is as it must be.
-fn levels_ok(c: Circuit) -> bool
-    ensures { λ r. ⌜ r ≡ levelsOk c ⌝ }
+// Tells whether the level of each part of record i that is present is as it must be.
+fn levels_ok(t: &[u8], i: usize) -> bool
+    requires { ⌜ i < circuits (now t) ⌝ }
+    ensures { λ r. ⌜ r ≡ levelsOk (circuitAt (now (t .entry)) i) ⌝ }
 {
-    if holder_level_ok(c.holder) {
-        reservation_level_ok(c.reservation)
+    if holder_level_ok(t, i) {
+        reservation_level_ok(table::reservation_at(t, i))
     } else {
         false
     }
@@ -96,12 +86,13 @@ fn part_ok(p: Part) -> bool
     if p.present { fields_fit(p) } else { true }
 }
 
-// Tells whether the digits and the spare bits of each part that is present are right.
-fn fields_ok(c: Circuit) -> bool
-    ensures { λ r. ⌜ r ≡ fieldsOk pointCodeOk c ⌝ }
+// Tells whether the digits and the spare bits of each part of record i that is present are right.
+fn fields_ok(t: &[u8], i: usize) -> bool
+    requires { ⌜ i < circuits (now t) ⌝ }
+    ensures { λ r. ⌜ r ≡ fieldsOk pointCodeOk (circuitAt (now (t .entry)) i) ⌝ }
 {
-    if part_ok(c.holder) {
-        part_ok(c.reservation)
+    if part_ok(table::holder_at(t, i)) {
+        part_ok(table::reservation_at(t, i))
     } else {
         false
     }
@@ -123,13 +114,13 @@ fn pair_ok(c: Circuit) -> bool
     c.reservation.mark.outranks(c.holder.mark)
 }
 
-// Tells whether the flags of record i are 0 or 1, and the levels of c are as they must be.
-fn flags_and_levels(t: &[u8], i: usize, c: Circuit) -> bool
+// Tells whether the flags of record i are 0 or 1, and its levels as they must be.
+fn flags_and_levels(t: &[u8], i: usize) -> bool
     requires { ⌜ i < circuits (now t) ⌝ }
-    ensures { λ r. ⌜ r ≡ flagsAt (now (t .entry)) i && levelsOk c ⌝ }
+    ensures { λ r. ⌜ r ≡ flagsAt (now (t .entry)) i && levelsOk (circuitAt (now (t .entry)) i) ⌝ }
 {
     if table::flags(t, i) {
-        levels_ok(c)
+        levels_ok(t, i)
     } else {
         false
     }
@@ -147,38 +138,26 @@ fn record(t: &[u8], i: usize) -> u64
     requires { ⌜ i < circuits (now t) ⌝ }
     ensures { λ r. ⌜ r ≡ digitOf (recordVerdict records (now (t .entry)) i) ⌝ }
 {
-    let c = table::circuit_at(t, i);
-    if !flags_and_levels(t, i, c) {
+    if !flags_and_levels(t, i) {
         return digit(Reason::FlagOrLevel);
     }
-    if !fields_ok(c) {
+    if !fields_ok(t, i) {
         return digit(Reason::DigitOrPointCode);
     }
     if !table::blank(t, i) {
         return digit(Reason::NotZero);
     }
-    if !pair_ok(c) {
+    if !pair_ok(table::circuit_at(t, i)) {
         return digit(Reason::NotAbove);
     }
     0
 }
 
-// Tells whether a holder's part that is present is fit by itself: its level, its digits and its spare bits are right.
-fn holder_fit(p: Part) -> bool
-    ensures { λ r. ⌜ r ≡ fit heldUnder p ⌝ }
+// Tells whether a part that is present is fit by itself: its level is one of the five, and its digits and its spare bits are right.
+fn fit(p: Part) -> bool
+    ensures { λ r. ⌜ r ≡ order.fit p ⌝ }
 {
-    if held_under(p.mark) {
-        fields_fit(p)
-    } else {
-        false
-    }
-}
-
-// Tells whether a reservation's part that is present is fit by itself.
-fn reservation_fit(p: Part) -> bool
-    ensures { λ r. ⌜ r ≡ fit reservedUnder p ⌝ }
-{
-    if reserved_under(p.mark) {
+    if p.mark.level.known() {
         fields_fit(p)
     } else {
         false
@@ -188,17 +167,29 @@ fn reservation_fit(p: Part) -> bool
 // Tells whether the holder's part of record i is present and fit, or zero.
 fn holder_in_order(t: &[u8], i: usize) -> bool
     requires { ⌜ i < circuits (now t) ⌝ }
-    ensures { λ r. ⌜ r ≡ partInOrder heldUnder (circuitAt (now (t .entry)) i .holder) (holderOctets (now (t .entry)) i) ⌝ }
+    ensures { λ r. ⌜ r ≡ partInOrder (circuitAt (now (t .entry)) i .holder) (holderOctets (now (t .entry)) i) ⌝ }
 {
     let p = table::holder_at(t, i);
     if p.present {
-        holder_fit(p)
+        fit(p)
     } else {
         table::holder_zero(t, i)
     }
 }
 
-// Tells whether record i is in order: no reason applies to it. Only where there is a reservation are the two parts held against each other.
+// Tells whether nobody holds the circuit, or one whom its reservation outranks.
+fn above(c: Circuit) -> bool
+    ensures { λ r. ⌜ r ≡ order.above c ⌝ }
+{
+    if c.holder.present {
+        c.reservation.mark.outranks(c.holder.mark)
+    } else {
+        true
+    }
+}
+
+// Tells whether record i is in order: then no reason applies to it. Only where there is a reservation are the two parts held against each
+// other.
 fn in_order(t: &[u8], i: usize) -> bool
     requires { ⌜ i < circuits (now t) ⌝ }
     ensures { λ r. ⌜ r ≡ inOrder (now (t .entry)) i ⌝ }
@@ -212,25 +203,18 @@ fn in_order(t: &[u8], i: usize) -> bool
     if !table::reserved_at(t, i) {
         return table::reservation_zero(t, i);
     }
-    if !reservation_fit(table::reservation_at(t, i)) {
+    if !fit(table::reservation_at(t, i)) {
         return false;
     }
-    pair_ok(table::circuit_at(t, i))
+    above(table::circuit_at(t, i))
 }
 
-// Finds the lowest record that is not in order.
-fn first_out_of_order(t: &[u8]) -> Found
-    ensures { λ r. ⌜ r ≡ firstTo (outOfOrder (now (t .entry))) (circuits (now (t .entry))) ⌝ }
+// Gives what `record` gives of record i. A holder under no precedence is not in order, and it is for `record` to find nothing there.
+fn judged(t: &[u8], i: usize) -> u64
+    requires { ⌜ i < circuits (now t) ⌝ }
+    ensures { λ r. ⌜ r ≡ digitOf (recordVerdict records (now (t .entry)) i) ⌝ }
 {
-    let n = table::count(t);
-    let mut i = 0;
-    while i < n {
-        if !in_order(t, i) {
-            return Found::At(i);
-        }
-        i += 1;
-    }
-    Found::Nothing
+    if in_order(t, i) { 0 } else { record(t, i) }
 }
 
 // Gives the code of a fault: 8 times its record and the last digit of its reason's number. A valid table has the code 0. Inside this crate a
@@ -242,14 +226,20 @@ fn code(digit: u64, i: usize) -> u64
     8 * i as u64 + digit
 }
 
-// Gives the code of the verdict on the records, each by itself: it is that on the lowest that is not in order.
+// Gives the code of the verdict on the records, each by itself: it is that on the lowest that has a fault.
 fn each_record(t: &[u8]) -> u64
     ensures { λ r. ⌜ r ≡ codeOf (recordsTo records (now (t .entry)) (circuits (now (t .entry)))) ⌝ }
 {
-    match first_out_of_order(t) {
-        Found::At(i) => code(record(t, i), i),
-        Found::Nothing => 0,
+    let n = table::count(t);
+    let mut i = 0;
+    while i < n {
+        let found = judged(t, i);
+        if found != 0 {
+            return code(found, i);
+        }
+        i += 1;
     }
+    0
 }
 
 // Gives the code of the verdict on the references: the first that stands in an earlier part is a fault.

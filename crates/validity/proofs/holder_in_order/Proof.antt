@@ -3,7 +3,6 @@ use mathlib.Core.Path.{ap, _∙_}
 use borrow.Author.Needs.{needs}
 use Rattle.octets.proofs.Tests.{ways}
 use Rattle.rules.specs.declared.part.Part.{Part}
-use Rattle.rules.specs.Valid.{heldUnder}
 use Rattle.validity.specs.Order.{fit}
 use Rattle.validity.proofs.holder_in_order.Statement.{statement}
 use Rattle.validity.proofs.holder_in_order.Tie as tie
@@ -15,5 +14,5 @@ holder-in-order-spec =
     (λ c κs. search needs)
     (λ c κs. search needs)
     (λ c κs. search needs)
-    (λ c. let y = c .before .before .holder-at .ensures in let p = ap (λ (p : Part). p .present) y in let f = c .holder-fit .ensures ∙ ap (fit heldUnder) y in search ways)
+    (λ c. let y = c .before .before .holder-at .ensures in let p = ap (λ (p : Part). p .present) y in let f = c .fit .ensures ∙ ap fit y in search ways)
     (λ c. let p = ap (λ (p : Part). p .present) (c .before .before .holder-at .ensures) in search ways))

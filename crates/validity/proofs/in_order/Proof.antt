@@ -5,9 +5,8 @@ use denote.Ref.{now}
 use borrow.Author.Needs.{needs}
 use borrow.Author.Tests.{not-true, not-false}
 use Rattle.octets.proofs.Tests.{both, and-on, and-off, if-true, if-false}
-use Rattle.rules.specs.Valid.{reservedUnder, pairOk}
 use Rattle.rules.specs.Records.{circuitAt}
-use Rattle.validity.specs.Order.{fit, inOrder}
+use Rattle.validity.specs.Order.{fit, above, inOrder}
 use Rattle.validity.proofs.in_order.Statement.{statement}
 use Rattle.validity.proofs.in_order.Tie as tie
 
@@ -24,7 +23,7 @@ unfolding inOrder
 returns-3 c = search (both, if-false) depth 8
 
 -- of a reservation that is there it is asked that it is fit, and above its holder
-reserved : {z : Bool} (c : tie.After-reservation-fit) → let a = c .before .before .before .before .before .before .before .before .before .args in let x = circuitAt (now (a .t)) (a .i) in z ≡ fit reservedUnder (x .reservation) && pairOk x → z ≡ inOrder (now (a .t)) (a .i)
+reserved : {z : Bool} (c : tie.After-fit) → let a = c .before .before .before .before .before .before .before .before .before .args in let x = circuitAt (now (a .t)) (a .i) in z ≡ fit (x .reservation) && above x → z ≡ inOrder (now (a .t)) (a .i)
 unfolding inOrder
 reserved c last =
     let three = c .before .before .before in
@@ -36,14 +35,14 @@ reserved c last =
 returns-4 : tie.Need-returns-4
 returns-4 c =
     reserved (c .before)
-    (and-off _ _ (c .before .reservation-fit .ensures ∙ ap (fit reservedUnder) (c .before .before .reservation-at .ensures)) (not-true _ (c .if4 .taken)) refl)
+    (and-off _ _ (c .before .fit .ensures ∙ ap fit (c .before .before .reservation-at .ensures)) (not-true _ (c .if4 .taken)) refl)
 
 returns-5 : tie.Need-returns-5
 returns-5 c =
     let three = c .before .before .before in
     reserved three
-    (and-on _ _ (three .reservation-fit .ensures ∙ ap (fit reservedUnder) (three .before .reservation-at .ensures)) (not-false _ (c .before .before .if4 .left))
-    (c .pair-ok .ensures ∙ ap pairOk (c .before .circuit-at .ensures)))
+    (and-on _ _ (three .fit .ensures ∙ ap fit (three .before .reservation-at .ensures)) (not-false _ (c .before .before .if4 .left))
+    (c .above .ensures ∙ ap above (c .before .circuit-at .ensures)))
 
 pub in-order-spec : {M : Type 1} → statement M
 in-order-spec =

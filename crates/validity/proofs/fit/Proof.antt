@@ -1,11 +1,11 @@
 -- The level, then the fields.
 use Rattle.octets.proofs.Tests.{both}
 use borrow.Author.Needs.{needs}
-use Rattle.validity.proofs.holder_fit.Statement.{statement}
-use Rattle.validity.proofs.holder_fit.Tie as tie
+use Rattle.validity.proofs.fit.Statement.{statement}
+use Rattle.validity.proofs.fit.Tie as tie
 
-pub holder-fit-spec : {M : Type 1} → statement M
-holder-fit-spec =
+pub fit-spec : {M : Type 1} → statement M
+fit-spec =
     tie.close
     (tie.spec
     (λ c κs. search needs)
