@@ -1,10 +1,11 @@
--- The number of an answer, and the length of a table after an event.
+-- The number and the detail of an answer, and the length of a table after an event.
 use Prim.Native.Nat.{ℕ, zero, suc}
 use mathlib.Core.Path.{_≡_, refl, _∙_}
 use mathlib.Core.List.{List, [], _∷_}
 use lib.ListN.{length}
 use Rattle.octets.proofs.Tests.{by-test}
 use Rattle.octets.proofs.Spans.{length-put}
+use Rattle.octets.proofs.Width.{value-octets}
 use Rattle.rules.specs.declared.circuit.Circuit.{Circuit}
 use Rattle.rules.specs.declared.event.Event.{Event}
 use Rattle.rules.specs.declared.outcome.Act.the-variants.{Cancel}
@@ -12,11 +13,15 @@ use Rattle.rules.specs.declared.outcome.Outcome.{Outcome}
 use Rattle.rules.specs.declared.outcome.Outcome.the-variants.{Refuse, Do, Clock}
 use Rattle.rules.specs.Circuit.{overdue, made}
 use Rattle.rules.specs.Run.{outcomeOf, sweepTo, effect, after, answered, answerRecord, run}
-use Rattle.rules.specs.Records.{circuitAt, circuitOctets, putCircuit, eventAt, records, circuits, answerNumber}
+use Rattle.rules.specs.Records.{circuitAt, circuitOctets, putCircuit, eventAt, records, circuits, answerNumber, answerDetail}
 
 pub answer-number : (t e : List ℕ) → answerNumber (answerRecord records t e) ≡ answered records t e .number
 unfolding answerRecord records
 answer-number t e = refl
+
+pub answer-detail : (t e : List ℕ) → answerDetail (answerRecord records t e) ≡ answered records t e .detail
+unfolding answerRecord records
+answer-detail t e = value-octets 1 (answered records t e .detail)
 
 -- ---- a table keeps its length
 length-circuit : (t : List ℕ) (i : ℕ) (y : Circuit) → length (putCircuit t i y) ≡ length t

@@ -7,7 +7,6 @@ use mathlib.Core.List.{List, [], _∷_, _++_}
 use native.Mathlib.Omega.{arith}
 use lib.ListN.{length}
 use lib.Dec.{eqb}
-use Rattle.octets.proofs.Width.{value-octets}
 use Rattle.rules.specs.Run.{after, answered, answerRecord, run}
 use Rattle.rules.specs.Records.{records, eventSize, eventIn, answerIn, answerNumber, answerDetail, lostCall, isLost}
 use Rattle.rules.proofs.Records.{flag-back}
@@ -18,6 +17,7 @@ use Rattle.tally.specs.Entry.{figuresNumber, figuresTotals}
 use Rattle.claims.specs.History.{Turn}
 use Rattle.claims.specs.Lists.{EventList, turnsTo, turns}
 use Rattle.claims.specs.Figures.{total, countTurns, eventsOf, namesLost}
+use Rattle.claims.proofs.Octets.{answer-detail}
 use Rattle.claims.proofs.Ran.{Ran, ran-append}
 use Rattle.claims.proofs.Cut.{list-ran}
 use Rattle.claims.proofs.Added.{done-added, list-done, by-events}
@@ -55,8 +55,7 @@ module _ (t : List ℕ) (p : Turn) (said : Said t p) where
   says-number = ap answerNumber said
 
   pub says-where : answerDetail (p .answer) ≡ answered records t (p .event) .detail
-  unfolding answerRecord records
-  says-where = ap answerDetail said ∙ value-octets 1 (answered records t (p .event) .detail)
+  says-where = ap answerDetail said ∙ answer-detail t (p .event)
 
   pub says-lost : namesLost p ≡ answered records t (p .event) .call .present
   unfolding answerRecord records

@@ -1,31 +1,24 @@
 -- A call whose mark came off holds its circuit until its own release.
 use Prim.Native.Nat.{ℕ, _<_}
 use mathlib.Core.Path.{_≡_, refl, sym, ap, _∙_, subst}
-use mathlib.Core.Logic.{⊎-elim, _≢_, _⊎_, inl, inr}
-use mathlib.Core.Bool.{Bool, true, cond, _||_}
+use mathlib.Core.Logic.{⊎-elim, _⊎_, inl, inr}
+use mathlib.Core.Bool.{Bool, true, cond}
 use mathlib.Core.List.{List, [], _∷_, _++_, append-nil, append-assoc}
 use native.Mathlib.Omega.{arith}
 use borrow.Author.Tests.{eq-eqb}
-use Rattle.octets.proofs.Tests.{by-test}
-use Rattle.octets.proofs.Width.{value-octets}
 use Rattle.rules.specs.declared.part.Part.{Part}
 use Rattle.rules.specs.declared.circuit.Circuit.{Circuit}
-use Rattle.rules.specs.declared.event.Event.{Event}
-use Rattle.rules.specs.declared.outcome.Act.the-variants.{Seize, Reserve, Release, Cancel, Unmark}
-use Rattle.rules.specs.declared.outcome.Outcome.{Outcome}
-use Rattle.rules.specs.declared.outcome.Outcome.the-variants.{Refuse, Do, Clock}
 use Rattle.rules.specs.Numbers as number
 use Rattle.rules.specs.Circuit.{noPrecedence, withoutPrecedence}
-use Rattle.rules.specs.Answer.{anothers, answerOf}
-use Rattle.rules.specs.Run.{outcomeOf, answered, answerRecord}
-use Rattle.rules.specs.Records.{circuitAt, records, circuits, answerOctets, answerNumber, answerDetail, emptyTable}
-use Rattle.rules.proofs.Numbers.{refusal-high}
-use Rattle.rules.proofs.Grounds.{Held, Grounds, decided}
+use Rattle.rules.specs.Run.{answered, answerRecord}
+use Rattle.rules.specs.Records.{circuitAt, records, circuits, answerNumber, answerDetail, emptyTable}
+use Rattle.rules.proofs.Again.{eight-own}
 use Rattle.claims.specs.History.{Turn, asked, named, afterAnswer, afterTurn, empty, history}
 use Rattle.claims.specs.Lists.{EventList, tableAfter, past}
 use Rattle.claims.specs.Demand.{StandsIn}
 use Rattle.claims.specs.Accidents.{HolderGoes, released, higher-set-up, HolderStays, same-mark, unmarked, ReleasedAmong, NeverTaken}
 use Rattle.claims.proofs.Plain.{stands-in}
+use Rattle.claims.proofs.Octets.{answer-number, answer-detail}
 use Rattle.claims.proofs.Ran.{stood}
 use Rattle.claims.proofs.Start.{start-valid}
 use Rattle.claims.proofs.Demanded.{start-count, start-shows, history-then, ran-split}
@@ -34,33 +27,14 @@ use Rattle.claims.proofs.Holders.{no-holder-lost}
 abbrev off : List ℕ → Part  -- the call with reference r, under no precedence
 off r = record { present = true; mark = noPrecedence; reference = r }
 
--- ---- what is answered by 8 is the kind 6 of the holder of the circuit that the answer names
-module _ (x : ℕ → Circuit) (n : ℕ) (e : Event) where
-  either-not : (b : Bool) (j k : ℕ) → j ≢ 8 → k ≢ 8 → cond b j k ≢ 8
-  either-not b j k p q = by-test (λ (m : ℕ). m ≢ 8) b j k (λ z. p) (λ z. q)
-
-  by-eight : (o : Outcome) → Grounds x n e o → answerOf x n e o .number ≡ 8 → let c = answerOf x n e o .detail in (c < n) × (Held x n e c ≡ true)
-  unfolding answerOf
-  by-eight (Refuse r) h q = absurd (omega (arith, refusal-high r))
-  by-eight (Do Seize i) h q =
-      absurd (either-not (x i .holder .present || anothers (e .reference) (x i .reservation) .present) 2 1 (λ z. omega arith) (λ z. omega arith) q)
-  by-eight (Do Reserve i) h q = absurd (either-not (x i .reservation .present) 4 3 (λ z. omega arith) (λ z. omega arith) q)
-  by-eight (Do Release i) h q = absurd (omega arith)
-  by-eight (Do Cancel i) h q = absurd (omega arith)
-  by-eight (Do Unmark i) h q = (h .there, h .own)
-  by-eight Clock h q = absurd (omega arith)
-
--- turn p over table t
+-- ---- what is answered by 8, over table t, is the kind 6 of the holder of the circuit that the answer names
 held-there : (t : List ℕ) (p : Turn) → p .answer ≡ answerRecord records t (p .event) → answerNumber (p .answer) ≡ number.unmarked → let c = answerDetail (p .answer) in (c < circuits t) × StandsIn (asked p .reference) (circuitAt t c .holder)
-unfolding records answerRecord answered
+unfolding records
 held-there t p a eight =
-    let x = circuitAt t in
-    let n = circuits t in
-    let e = asked p in
-    let said = answerOf x n e (outcomeOf records t e) in
-    let c : answerDetail (p .answer) ≡ said .detail = ap answerDetail a ∙ value-octets 1 (said .detail) in
-    let h = by-eight x n e (outcomeOf records t e) (decided records t e) (sym (ap answerNumber a) ∙ eight) in
-    subst (λ (d : ℕ). (d < n) × StandsIn (e .reference) (x d .holder)) (sym c) (h .0, stands-in (e .reference) (x (said .detail) .holder) (h .1))
+    let r = asked p .reference in
+    let c : answerDetail (p .answer) ≡ answered records t (p .event) .detail = ap answerDetail a ∙ answer-detail t (p .event) in
+    let own = eight-own records t (p .event) (sym (ap answerNumber a ∙ answer-number t (p .event)) ∙ eight) in
+    subst (λ (d : ℕ). (d < circuits t) × StandsIn r (circuitAt t d .holder)) (sym c) (own .there, stands-in r (circuitAt t _ .holder) (own .own))
 
 -- the mark comes off at a turn that is answered by 8
 comes-off : (p : Turn) (y : Circuit) → answerNumber (p .answer) ≡ number.unmarked → StandsIn (asked p .reference) (y .holder) → afterTurn p (answerDetail (p .answer)) y .holder ≡ off (asked p .reference)
