@@ -299,14 +299,14 @@ int main(void)
     static const size_t sizes[] = {16, 64, 256};
     /* The first is counted in more ways, and the last leaves behind the state from which the next table with every part is drawn. */
     static void (*const workloads[])(struct workload *, size_t) = {make_mixed, make_mixed_without_service, make_take_heavy, make_full_table};
-    static uint8_t all_parts[sizeof work.table];
+    static uint8_t table[sizeof work.table];
     COUNT();
     counted("nothing", 0, sides, 1);
     for (size_t i = 0; i < sizeof sizes / sizeof *sizes; i++) {
-        make_all_parts(all_parts, sizes[i]);
-        bench_check("check, every part present", all_parts, sizes[i]);
-        make_all_parts_alike(all_parts, sizes[i]);
-        bench_check("check, references made against the filter", all_parts, sizes[i]);
+        make_all_parts(table, sizes[i]);
+        bench_check("check, every part present", table, sizes[i]);
+        make_all_parts_alike(table, sizes[i]);
+        bench_check("check, references made against the filter", table, sizes[i]);
         for (size_t j = 0; j < sizeof workloads / sizeof *workloads; j++) {
             char what[64];
             workloads[j](&work, sizes[i]);
@@ -315,6 +315,8 @@ int main(void)
             write_answer_counts(&work);
             if (j == 0) {
                 bench_check("check, mixed table", work.table, sizes[i]);
+                make_marks_off(table, sizes[i]);
+                bench_check("check, every mark off", table, sizes[i]);
                 bench_lamps("lamp map, mixed table", work.table, sizes[i]);
                 bench_event("one event alone, mixed", &work);
                 bench_figures("figures of a mixed list, an event", &work);

@@ -220,6 +220,16 @@ void make_full_table(struct workload *w, size_t circuits)
     }
 }
 
+void make_marks_off(uint8_t *table, size_t circuits)
+{
+    memset(table, 0, circuits * NAUSTVRI_CIRCUIT_SIZE);
+    for (size_t i = 0; i < circuits; i++) {
+        uint8_t *holder = table + i * NAUSTVRI_CIRCUIT_SIZE + NAUSTVRI_CIRCUIT_HELD;
+        make_part(holder, NAUSTVRI_NO_PRECEDENCE, 0, (uint32_t)i + 1);
+        memset(holder + 2, 0, NAUSTVRI_DOMAIN_SIZE);
+    }
+}
+
 void make_all_parts(uint8_t *table, size_t circuits)
 {
     uint32_t call = 0;

@@ -25,6 +25,9 @@ void make_take_heavy(struct workload *w, size_t circuits);
 /* A route full of the highest level: every search goes to the end and every event but the clock is refused. */
 void make_full_table(struct workload *w, size_t circuits);
 
+/* A table whose every circuit is held by a call whose mark is off. */
+void make_marks_off(uint8_t *table, size_t circuits);
+
 /* A table whose every circuit has a holder and a reservation, so that the most references stand in it. */
 void make_all_parts(uint8_t *table, size_t circuits);
 
