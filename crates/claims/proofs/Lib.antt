@@ -23,7 +23,7 @@ pub mod Reasons
 pub mod Named
 pub mod Passed
 pub mod Filled
-pub mod Second
+pub mod MarkOff
 pub mod Carried
 pub mod Settled
 pub mod Added

@@ -26,6 +26,9 @@ module _ (r : List ℕ) (p : Part) where
   pub stands-in : isOf r p ≡ true → StandsIn r p
   stands-in h = (and-left (p .present) (same (p .reference) r) h, same-true (p .reference) r (and-right (p .present) (same (p .reference) r) h))
 
+  pub so-in : StandsIn r p → isOf r p ≡ true
+  so-in h = (λ d. h .0 d && same (h .1 d) r) ∙ same-refl r
+
   pub not-in : (StandsIn r p → ⊥) → isOf r p ≡ false
   not-in f = not-so (isOf r p) (λ h. f (stands-in h))
 

@@ -37,7 +37,7 @@ module _ (x : ℕ → Circuit) (n : ℕ) (u : Unique (partNumbered x) (2 * n)) (
       let half : (2 * c + 1) / 2 ≡ c = omega arith in
       subst (StandsIn r) (sym (λ d. cond (eqb (odd d) 0) (x (half d) .holder) (x (half d) .reservation)))
 
-  in-one-part : InOnePart n x r
+  pub in-one-part : InOnePart n x r
   in-one-part =
       record {
         one-held =

@@ -4,6 +4,7 @@ pub mod Chosen
 pub mod Demand
 pub mod Accidents
 pub mod OneByOne
+pub mod NoService
 pub mod Named
 pub mod Instance
 pub mod Figures

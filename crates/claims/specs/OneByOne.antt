@@ -1,9 +1,8 @@
--- This holds of every table, one that is not valid too: a list is its events one by one, validity is kept, a refusal changes nothing, and
--- nor does a second kind 6.
+-- This holds of every table, one that is not valid too: a list is its events one by one, validity is kept, and a refusal changes nothing.
 use Prim.Native.Nat.{ℕ, _%_, _≤_, _<_, _*_, _/_}
 use mathlib.Core.Path.{_≡_}
 use mathlib.Core.Logic.{_↔_, _≢_}
-use mathlib.Core.Bool.{true, cond, _&&_}
+use mathlib.Core.Bool.{cond, _&&_}
 use mathlib.Core.List.{List, [], _∷_}
 use lib.ListN.{length, replicate}
 use lib.Dec.{leb}
@@ -11,7 +10,7 @@ use Rattle.rules.specs.declared.circuit.Circuit.{Circuit}
 use Rattle.rules.specs.Numbers.{causeOf}
 use Rattle.rules.specs.Numbers as number
 use Rattle.rules.specs.Answer.{noDetail}
-use Rattle.rules.specs.Records.{checked, checkNumber, circuitSize, mostCircuits, eventSize, mostEvents, eventAt, answerSize, answerNumber, answerDetail, lostCall, lostReservation, emptyTable, answerFields, nobodyLost}
+use Rattle.rules.specs.Records.{checked, checkNumber, circuitSize, mostCircuits, eventSize, mostEvents, answerSize, answerNumber, lostCall, lostReservation, emptyTable, answerFields, nobodyLost}
 use Rattle.route.specs.Entries.{eventNumber, eventTable, eventAnswer, listNumber, listTable, listAnswers}
 use Rattle.claims.specs.History.{Turn, afterTurn}
 use Rattle.claims.specs.Lists.{EventList, tableAfter, past}
@@ -94,22 +93,3 @@ pub record OnlyWhereLost (t e place : List ℕ) : Type 0 where
 
 abbrev pub NamedOnlyWhereLost : Type 0
 NamedOnlyWhereLost = (t e place : List ℕ) → eventNumber t e place ≢ number.wrongLength → OnlyWhereLost t e place
-
--- f is an event of kind 6 with a zero parameter and call reference r
-pub record NoServiceOf (r f : List ℕ) : Type 0 where
-  pub octets : length f ≡ eventSize
-  pub kind : eventAt f .kind ≡ 6
-  pub parameter : eventAt f .parameterless ≡ true
-  pub reference : eventAt f .reference ≡ r
-
--- event f over table u is accepted by 8 and circuit c, nobody is lost, and the table stays, octet for octet
-pub record StaysUnmarked (u f place : List ℕ) (c : ℕ) : Type 0 where
-  pub accepted : eventNumber u f place ≡ number.unmarked
-  pub table : eventTable u f place ≡ u
-  pub answer : eventAnswer u f place ≡ answerFields number.unmarked 0 c nobodyLost nobodyLost
-
--- 02, L4: "A second such event changes nothing and is accepted": it follows one that was answered by 8 over any table, and is of the same call
-abbrev pub SecondAccepted : Type 0
-SecondAccepted =
-    (t e place f next : List ℕ) → eventNumber t e place ≡ number.unmarked → NoServiceOf (eventAt e .reference) f → length next ≡ answerSize
-    → StaysUnmarked (eventTable t e place) f next (answerDetail (eventAnswer t e place))

@@ -68,6 +68,15 @@ well-formed e k p =
     k
     ∙ p
 
+-- over a valid table it is an act on the circuit that its call holds
+pub by-no-service : {S : Type 0} (L : Layout S) (s : S) (e : Event) → valid L s ≡ true → e .kind ≡ 6 → e .parameterless ≡ true → outcomeOf L s e ≡ onHolder (L .view s) (L .count s) Unmark e
+unfolding outcomeOf valid
+by-no-service L s e v kind zero =
+    let decides = decision (L .view s) (L .count s) e in
+    ap (λ (b : Bool). unless b Malformed (ifSound (verdict L s) decides)) (well-formed e kind zero)
+    ∙ ap (λ (w : Verdict). ifSound w decides) (valid-is (verdict L s) v)
+    ∙ by-kind (L .view s) (L .count s) e kind
+
 -- ---- in any layout: event e over table s was answered by 8
 module _ {S : Type 0} (L : Layout S) (s : S) (e : List ℕ) (eight : answered L s e .number ≡ unmarked) where
   abbrev ev : Event
@@ -127,13 +136,10 @@ module _ {S : Type 0} (L : Layout S) (s : S) (e : List ℕ) (eight : answered L 
       fv = L .event f
 
       decided-again : outcomeOf L u fv ≡ Do Unmark i
-      unfolding outcomeOf onHolder valid
+      unfolding onHolder
       decided-again =
-          let decides = decision (L .view u) (L .count u) fv in
           let acts : Found → Outcome = λ h. found h (Do Unmark) (Refuse NotThere) in
-          ap (λ (b : Bool). unless b Malformed (ifSound (verdict L u) decides)) (well-formed fv kind zero)
-          ∙ ap (λ (v : Verdict). ifSound v decides) (valid-is (verdict L u) (after-valid L W s e (by-rules .0)))
-          ∙ by-kind (L .view u) (L .count u) fv kind
+          by-no-service L u fv (after-valid L W s e (by-rules .0)) kind zero
           ∙ ap (λ (r : List ℕ). acts (heldBy (L .view u) (L .count u) r)) call
           ∙ ap acts (same-held (ev .reference))
           ∙ sym (by-kind x n ev (eight-own .kind)) ∙ sym (by-rules .1) ∙ decided-so
