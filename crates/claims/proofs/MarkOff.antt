@@ -1,8 +1,7 @@
 -- A kind 6 takes the mark off the holder that has its reference, and a second one of the same call changes nothing.
 use Prim.Native.Nat.{ℕ, _+_, _*_, _<_}
 use mathlib.Core.Path.{_≡_, refl, sym, ap, _∙_, subst}
-use mathlib.Core.Logic.{_≢_}
-use mathlib.Core.Bool.{Bool, true, false, cond}
+use mathlib.Core.Bool.{Bool, true, cond}
 use mathlib.Core.List.{List}
 use native.Mathlib.Omega.{arith}
 use lib.ListN.{length}
@@ -13,7 +12,6 @@ use Rattle.rules.specs.declared.circuit.Circuit.{Circuit}
 use Rattle.rules.specs.declared.event.Event.{Event}
 use Rattle.rules.specs.declared.answer.Answer.{Answer}
 use Rattle.rules.specs.declared.search.Found.{Found}
-use Rattle.rules.specs.declared.search.Found.the-variants.{At, Nothing}
 use Rattle.rules.specs.declared.outcome.Act.the-variants.{Unmark}
 use Rattle.rules.specs.declared.outcome.Refusal.the-variants.{NotThere}
 use Rattle.rules.specs.declared.outcome.Outcome.{Outcome}

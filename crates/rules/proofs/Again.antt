@@ -2,7 +2,7 @@
 use Prim.Native.Nat.{ℕ, _<_}
 use mathlib.Core.Path.{_≡_, refl, sym, ap, _∙_, subst}
 use mathlib.Core.Logic.{_≢_}
-use mathlib.Core.Bool.{Bool, true, false, cond, _&&_, _||_}
+use mathlib.Core.Bool.{Bool, true, cond, _||_}
 use mathlib.Core.List.{List}
 use native.Mathlib.Omega.{arith}
 use lib.Dec.{eqb}
@@ -21,8 +21,8 @@ use Rattle.rules.specs.Numbers.{unmarked}
 use Rattle.rules.specs.Search.{found}
 use Rattle.rules.specs.Circuit.{isOf, made}
 use Rattle.rules.specs.Choice.{heldBy}
-use Rattle.rules.specs.Event.{marked, wellFormed}
-use Rattle.rules.specs.Decision.{unless, setUp, lookAhead, onHolder, cancel, decision}
+use Rattle.rules.specs.Event.{wellFormed}
+use Rattle.rules.specs.Decision.{unless, onHolder, decision}
 use Rattle.rules.specs.Answer.{anothers, mayLose, noLoser, becomes, answerOf}
 use Rattle.rules.specs.Layout.{Layout}
 use Rattle.rules.specs.Valid.{verdict, valid}
@@ -57,16 +57,11 @@ module _ (x : ℕ → Circuit) (n : ℕ) (e : Event) where
   -- ---- an event of kind 6
   by-kind : e .kind ≡ 6 → decision x n e ≡ onHolder x n Unmark e
   unfolding decision
-  by-kind k =
-      ap (λ (m : ℕ). cond (eqb m 1) (setUp x n e) (cond (eqb m 2) (onHolder x n Release e) (cond (eqb m 3) (lookAhead x n e) (cond (eqb m 4) (cancel x n e) (cond (eqb m 6) (onHolder x n Unmark e) Clock)))))
-      k
+  by-kind k = simp (k)
 
 well-formed : (e : Event) → e .kind ≡ 6 → e .parameterless ≡ true → wellFormed e ≡ true
 unfolding wellFormed
-well-formed e k p =
-    ap (λ (m : ℕ). cond (eqb m 1) (marked e) (cond (eqb m 2) (e .parameterless) (cond (eqb m 3) (marked e) (cond (eqb m 4) (e .parameterless) (cond (eqb m 6) (e .parameterless) (cond (eqb m 5) (e .parameterless && e .referenceless) false))))))
-    k
-    ∙ p
+well-formed e k p = simp (k, p)
 
 -- over a valid table it is an act on the circuit that its call holds
 pub by-no-service : {S : Type 0} (L : Layout S) (s : S) (e : Event) → valid L s ≡ true → e .kind ≡ 6 → e .parameterless ≡ true → outcomeOf L s e ≡ onHolder (L .view s) (L .count s) Unmark e

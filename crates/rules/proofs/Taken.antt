@@ -1,8 +1,8 @@
 -- A set-up takes a circuit only from a holder under a precedence, who is strictly lower in the same domain.
-use Prim.Native.Nat.{ℕ, _<_}
+use Prim.Native.Nat.{ℕ}
 use mathlib.Core.Path.{_≡_}
 use mathlib.Core.Logic.{⊎-elim}
-use mathlib.Core.Bool.{Bool, true, _&&_}
+use mathlib.Core.Bool.{true, _&&_}
 use Rattle.octets.specs.Same.{same}
 use Rattle.octets.proofs.Tests.{and-left, halves}
 use Rattle.rules.specs.declared.part.Part.{Part}

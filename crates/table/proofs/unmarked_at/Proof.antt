@@ -1,5 +1,5 @@
 -- The level, then five zeros.
-use Prim.Native.Nat.{ℕ, _+_, _*_}
+use Prim.Native.Nat.{_+_, _*_}
 use mathlib.Core.Path.{refl}
 use denote.Ref.{now}
 use lib.ListN.{getD}

@@ -1,7 +1,6 @@
 -- No holder, one of the five, or no precedence.
-use mathlib.Core.Path.{_≡_, refl, sym, ap, _∙_}
+use mathlib.Core.Path.{_≡_, refl, ap, _∙_}
 use mathlib.Core.Bool.{Bool, true, false, _||_}
-use denote.Ref.{now}
 use borrow.Author.Tests.{not-true, not-false}
 use borrow.Author.Needs.{needs}
 use Rattle.octets.proofs.Tests.{so-then, not-then, or-on, or-off}
@@ -9,7 +8,6 @@ use Rattle.rules.specs.declared.part.Part.{Part}
 use Rattle.rules.specs.Fields.{levelOk}
 use Rattle.rules.specs.Circuit.{sameMark, noPrecedence}
 use Rattle.rules.specs.Valid.{ifPresent, heldUnder}
-use Rattle.rules.specs.Records.{circuitAt}
 use Rattle.validity.proofs.holder_level_ok.Statement.{statement}
 use Rattle.validity.proofs.holder_level_ok.Tie as tie
 
