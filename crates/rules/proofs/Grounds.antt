@@ -1,9 +1,9 @@
--- Why an outcome is decided: by which kind of event, and what stood on the circuit.
+-- Why an outcome is decided: by which kind of event, and what stood on the circuit. No other proof goes through the kinds.
 use Prim.Native.Nat.{ℕ, _<_}
 use mathlib.Core.Path.{_≡_, refl, sym, ap, _∙_}
 use mathlib.Core.Logic.{⊎-elim, _⊎_, inl, inr}
 use mathlib.Core.Bool.{Bool, true, false, cond, _&&_, _||_, not, true≢false}
-use lib.Dec.{eqb}
+use lib.Dec.{eqb, leb}
 use borrow.Author.Tests.{eqb-true}
 use Rattle.octets.proofs.Tests.{by-so, by-test}
 use Rattle.rules.specs.declared.circuit.Circuit.{Circuit}
@@ -12,7 +12,8 @@ use Rattle.rules.specs.declared.search.Found.{Found}
 use Rattle.rules.specs.declared.search.Found.the-variants.{At, Nothing}
 use Rattle.rules.specs.declared.outcome.Act.{Act}
 use Rattle.rules.specs.declared.outcome.Act.the-variants.{Seize, Reserve, Release, Cancel, Unmark}
-use Rattle.rules.specs.declared.outcome.Refusal.the-variants.{Malformed, NotAllowed, ByRoutine, AlreadyThere, MarkDiffers, HolderNotLower, NotThere, NoCircuitToReserve}
+use Rattle.rules.specs.declared.outcome.Refusal.{Refusal}
+use Rattle.rules.specs.declared.outcome.Refusal.the-variants.{Malformed, NotAllowed, ByRoutine, AlreadyThere, MarkDiffers, HolderNotLower, NotThere, NoCircuitForRoutine, NoCircuit, NoCircuitToReserve}
 use Rattle.rules.specs.declared.outcome.Outcome.{Outcome}
 use Rattle.rules.specs.declared.outcome.Outcome.the-variants.{Refuse, Do, Clock}
 use Rattle.rules.specs.Fields.{allowed}
@@ -21,6 +22,8 @@ use Rattle.rules.specs.Circuit.{isRoutine, outranks, sameMark, isOf, fre
 use Rattle.rules.specs.Choice.{heldBy, reservedBy, choice}
 use Rattle.rules.specs.Event.{marked, wellFormed}
 use Rattle.rules.specs.Decision.{standsNowhere, onReservation, blocked, setUp, lookAhead, onHolder, cancel, decision}
+use Rattle.rules.specs.Numbers.{refusalNumber}
+use Rattle.rules.specs.Answer.{noDetail, refusalDetail}
 use Rattle.rules.specs.Layout.{Layout}
 use Rattle.rules.specs.Valid.{verdict}
 use Rattle.rules.specs.Run.{outcomeOf}
@@ -32,6 +35,14 @@ use Rattle.rules.proofs.Choice.{ChoiceIs, choice-is}
 by-kind : (P : Outcome → Type 0) (b v w : Bool) (p q : Outcome) → (b ≡ true → v ≡ true → P p) → (w ≡ true → P q) → cond b v w ≡ true → P (cond b p q)
 by-kind P true v w p q f g h = f refl h
 by-kind P false v w p q f g h = g h
+
+-- a refusal by the rules is for no record: it is none of 41 to 45, and names none
+abbrev pub ForNoRecord : Refusal → Type 0
+ForNoRecord r = (refusalDetail r ≡ noDetail) × (leb 41 (refusalNumber r) && leb (refusalNumber r) 45 ≡ false)
+
+blocked-for-none : (e : Event) → ForNoRecord (blocked e)
+blocked-for-none e =
+    by-test ForNoRecord (isRoutine (e .mark .level)) NoCircuitForRoutine NoCircuit (λ q. (refl, refl)) (λ q. (refl, refl))
 
 module _ (x : ℕ → Circuit) (n : ℕ) (e : Event) where
   abbrev pub Reserved : ℕ → Bool
@@ -69,33 +80,17 @@ module _ (x : ℕ → Circuit) (n : ℕ) (e : Event) where
     pub there : i < n
     pub own : stands i ≡ true
 
+  abbrev pub GroundsOr : (Refusal → Type 0) → Outcome → Type 0  -- P is what is said of a refusal
+  GroundsOr P (Refuse r) = P r
+  GroundsOr P (Do Seize i) = Seizes i
+  GroundsOr P (Do Reserve i) = Reserves i
+  GroundsOr P (Do Release i) = OnOwn 2 Held i
+  GroundsOr P (Do Cancel i) = OnOwn 4 Reserved i
+  GroundsOr P (Do Unmark i) = OnOwn 6 Held i
+  GroundsOr P Clock = e .kind ≡ 5
+
   abbrev pub Grounds : Outcome → Type 0  -- a refusal needs none: it changes nothing
-  Grounds (Refuse r) = Unit {0}
-  Grounds (Do Seize i) = Seizes i
-  Grounds (Do Reserve i) = Reserves i
-  Grounds (Do Release i) = OnOwn 2 Held i
-  Grounds (Do Cancel i) = OnOwn 4 Reserved i
-  Grounds (Do Unmark i) = OnOwn 6 Held i
-  Grounds Clock = e .kind ≡ 5
-
-  by-choice : (y : ℕ → Outcome) (z : Outcome) → ((i : ℕ) → i < n → Open i → Grounds (y i)) → Grounds z → Grounds (found (choice x n (e .mark)) y z)
-  by-choice y z g h = go (choice x n (e .mark)) (choice-is x n (e .mark))
-    where
-      go : (r : Found) → ChoiceIs x n (e .mark) r → Grounds (found r y z)
-      go (At i) k = g i (k .0) (⊎-elim (λ f. inl (f .0)) (λ t. inr (t .1)) (k .1))
-      go Nothing k = h
-
-  by-set-up : e .kind ≡ 1 → marked e ≡ true → Grounds (setUp x n e)
-  unfolding setUp heldBy reservedBy onReservation
-  by-set-up k m =
-      by-first Grounds Held n (λ i. Refuse AlreadyThere) _ (λ i l h. tt)
-      (λ a.
-      by-first Grounds Reserved n _ _
-      (λ i l h.
-      by-test Grounds (sameMark (e .mark) (x i .reservation .mark)) _ (Refuse MarkDiffers)
-      (λ q. by-test Grounds (HolderLower i) (Do Seize i) (Refuse HolderNotLower) (λ r. record { set-up = k; well-marked = m; there = l; given = inl (h, r) }) (λ r. tt))
-      (λ q. tt))
-      (λ b. by-choice (Do Seize) (Refuse (blocked e)) (λ i l o. record { set-up = k; well-marked = m; there = l; given = inr (o, (a, b)) }) tt))
+  Grounds = GroundsOr (λ r. Unit {0})
 
   nowhere : standsNowhere x n (e .reference) ≡ true → Nowhere
   unfolding heldBy reservedBy
@@ -103,38 +98,64 @@ module _ (x : ℕ → Circuit) (n : ℕ) (e : Event) where
       by-first (λ (b : Bool). b ≡ true → Nowhere) Held n (λ i. false) _ (λ i l h z. absurd (true≢false (sym z)))
       (λ a. by-first (λ (b : Bool). b ≡ true → Nowhere) Reserved n (λ i. false) true (λ i l h z. absurd (true≢false (sym z))) (λ b z. (a, b)))
 
-  by-look-ahead : e .kind ≡ 3 → marked e ≡ true → Grounds (lookAhead x n e)
-  unfolding lookAhead
-  by-look-ahead k m =
-      by-test Grounds (eqb (e .lfb) allowed) _ (Refuse NotAllowed)
-      (λ q.
-      by-test Grounds (not (isRoutine (e .mark .level))) _ (Refuse ByRoutine)
-      (λ q.
-      by-test Grounds (standsNowhere x n (e .reference)) _ (Refuse AlreadyThere)
-      (λ s. by-choice (Do Reserve) (Refuse NoCircuitToReserve) (λ i l o. record { look-ahead = k; well-marked = m; there = l; given = (o, nowhere s) }) tt)
-      (λ s. tt))
-      (λ q. tt))
-      (λ q. tt)
+  -- whatever P says of each refusal by the rules
+  module _ (P : Refusal → Type 0) (refused : (r : Refusal) → ForNoRecord r → P r) where
+    abbrev Gives : Outcome → Type 0
+    Gives = GroundsOr P
 
-  by-holder : (k : ℕ) (a : Act) → ((i : ℕ) → OnOwn k Held i → Grounds (Do a i)) → e .kind ≡ k → Grounds (onHolder x n a e)
-  unfolding onHolder heldBy
-  by-holder k a g q = by-first Grounds Held n (Do a) (Refuse NotThere) (λ i l h. g i (record { kind = q; there = l; own = h })) (λ b. tt)
+    by-choice : (y : ℕ → Outcome) (z : Outcome) → ((i : ℕ) → i < n → Open i → Gives (y i)) → Gives z → Gives (found (choice x n (e .mark)) y z)
+    by-choice y z g h = go (choice x n (e .mark)) (choice-is x n (e .mark))
+      where
+        go : (r : Found) → ChoiceIs x n (e .mark) r → Gives (found r y z)
+        go (At i) k = g i (k .0) (⊎-elim (λ f. inl (f .0)) (λ t. inr (t .1)) (k .1))
+        go Nothing k = h
 
-  pub grounds : wellFormed e ≡ true → Grounds (decision x n e)
-  unfolding wellFormed decision cancel reservedBy
-  grounds =
-      by-kind Grounds (eqb (e .kind) 1) (marked e) _ (setUp x n e) _ (λ k m. by-set-up (eqb-true (e .kind) 1 k) m)
-      (by-kind Grounds (eqb (e .kind) 2) (e .parameterless) _ (onHolder x n Release e) _ (λ k m. by-holder 2 Release (λ i g. g) (eqb-true (e .kind) 2 k))
-      (by-kind Grounds (eqb (e .kind) 3) (marked e) _ (lookAhead x n e) _ (λ k m. by-look-ahead (eqb-true (e .kind) 3 k) m)
-      (by-kind Grounds (eqb (e .kind) 4) (e .parameterless) _ (cancel x n e) _
-      (λ k m. by-first Grounds Reserved n (Do Cancel) (Refuse NotThere) (λ i l h. record { kind = eqb-true (e .kind) 4 k; there = l; own = h }) (λ b. tt))
-      (by-kind Grounds (eqb (e .kind) 6) (e .parameterless) _ (onHolder x n Unmark e) Clock (λ k m. by-holder 6 Unmark (λ i g. g) (eqb-true (e .kind) 6 k))
-      (λ w. by-so (eqb (e .kind) 5) (eqb-true (e .kind) 5) (λ k. absurd (true≢false (sym w ∙ ap (λ (b : Bool). cond b (e .parameterless && e .referenceless) false) k))))))))
+    by-set-up : e .kind ≡ 1 → marked e ≡ true → Gives (setUp x n e)
+    unfolding setUp heldBy reservedBy onReservation
+    by-set-up k m =
+        by-first Gives Held n (λ i. Refuse AlreadyThere) _ (λ i l h. refused AlreadyThere (refl, refl))
+        (λ a.
+        by-first Gives Reserved n _ _
+        (λ i l h.
+        by-test Gives (sameMark (e .mark) (x i .reservation .mark)) _ (Refuse MarkDiffers)
+        (λ q. by-test Gives (HolderLower i) (Do Seize i) (Refuse HolderNotLower) (λ r. record { set-up = k; well-marked = m; there = l; given = inl (h, r) }) (λ r. refused HolderNotLower (refl, refl)))
+        (λ q. refused MarkDiffers (refl, refl)))
+        (λ b. by-choice (Do Seize) (Refuse (blocked e)) (λ i l o. record { set-up = k; well-marked = m; there = l; given = inr (o, (a, b)) })
+        (refused (blocked e) (blocked-for-none e))))
+
+    by-look-ahead : e .kind ≡ 3 → marked e ≡ true → Gives (lookAhead x n e)
+    unfolding lookAhead
+    by-look-ahead k m =
+        by-test Gives (eqb (e .lfb) allowed) _ (Refuse NotAllowed)
+        (λ q.
+        by-test Gives (not (isRoutine (e .mark .level))) _ (Refuse ByRoutine)
+        (λ q.
+        by-test Gives (standsNowhere x n (e .reference)) _ (Refuse AlreadyThere)
+        (λ s. by-choice (Do Reserve) (Refuse NoCircuitToReserve) (λ i l o. record { look-ahead = k; well-marked = m; there = l; given = (o, nowhere s) })
+        (refused NoCircuitToReserve (refl, refl)))
+        (λ s. refused AlreadyThere (refl, refl)))
+        (λ q. refused ByRoutine (refl, refl)))
+        (λ q. refused NotAllowed (refl, refl))
+
+    by-holder : (k : ℕ) (a : Act) → ((i : ℕ) → OnOwn k Held i → Gives (Do a i)) → e .kind ≡ k → Gives (onHolder x n a e)
+    unfolding onHolder heldBy
+    by-holder k a g q = by-first Gives Held n (Do a) (Refuse NotThere) (λ i l h. g i (record { kind = q; there = l; own = h })) (λ b. refused NotThere (refl, refl))
+
+    pub grounds : wellFormed e ≡ true → Gives (decision x n e)
+    unfolding wellFormed decision cancel reservedBy
+    grounds =
+        by-kind Gives (eqb (e .kind) 1) (marked e) _ (setUp x n e) _ (λ k m. by-set-up (eqb-true (e .kind) 1 k) m)
+        (by-kind Gives (eqb (e .kind) 2) (e .parameterless) _ (onHolder x n Release e) _ (λ k m. by-holder 2 Release (λ i g. g) (eqb-true (e .kind) 2 k))
+        (by-kind Gives (eqb (e .kind) 3) (marked e) _ (lookAhead x n e) _ (λ k m. by-look-ahead (eqb-true (e .kind) 3 k) m)
+        (by-kind Gives (eqb (e .kind) 4) (e .parameterless) _ (cancel x n e) _
+        (λ k m. by-first Gives Reserved n (Do Cancel) (Refuse NotThere) (λ i l h. record { kind = eqb-true (e .kind) 4 k; there = l; own = h }) (λ b. refused NotThere (refl, refl)))
+        (by-kind Gives (eqb (e .kind) 6) (e .parameterless) _ (onHolder x n Unmark e) Clock (λ k m. by-holder 6 Unmark (λ i g. g) (eqb-true (e .kind) 6 k))
+        (λ w. by-so (eqb (e .kind) 5) (eqb-true (e .kind) 5) (λ k. absurd (true≢false (sym w ∙ ap (λ (b : Bool). cond b (e .parameterless && e .referenceless) false) k))))))))
 
 pub decided : {S : Type 0} (L : Layout S) (s : S) (e : Event) → Grounds (L .view s) (L .count s) e (outcomeOf L s e)
 unfolding outcomeOf
 decided L s e =
     let P = Grounds (L .view s) (L .count s) e in
     by-test P (wellFormed e) _ (Refuse Malformed)
-    (λ w. by-verdict P (verdict L s) (decision (L .view s) (L .count s) e) (λ v. grounds (L .view s) (L .count s) e w) (λ r i f. tt))
+    (λ w. by-verdict P (verdict L s) (decision (L .view s) (L .count s) e) (λ v. grounds (L .view s) (L .count s) e (λ r. Unit {0}) (λ r f. tt) w) (λ r i f. tt))
     (λ w. tt)
