@@ -51,14 +51,14 @@ extern "C" {
     next(NAUSTVRI_RELEASED, 5, "the holder is gone") \
     next(NAUSTVRI_CANCELLED, 6, "the reservation is gone, a holder stays") \
     next(NAUSTVRI_CLOCK_TAKEN, 7, "the clock was looked at") \
-    next(NAUSTVRI_UNMARKED, 8, "the holder stays, without a precedence; a reservation above it is lost") \
+    next(NAUSTVRI_UNMARKED, 8, "the holder stays, without a precedence; a reservation above it, if there was one, is lost") \
     next(NAUSTVRI_WRONG_LENGTH, 20, "a length is wrong") \
     next(NAUSTVRI_TOO_MANY_LISTS, 60, "a list too many: the totals take no more") \
     next(NAUSTVRI_MALFORMED, 22, "the event or field is malformed") \
     next(NAUSTVRI_FLAG_OR_LEVEL, 41, "a flag is neither 0 nor 1, or the level of a present part is above 4 (a holder's may be 15 if its domain is zero)") \
     next(NAUSTVRI_DIGIT_OR_POINT_CODE, 42, "a digit of a present part is above 9, or a spare bit of its point code is set") \
     next(NAUSTVRI_NOT_ZERO, 43, "an octet of an absent part, or of octets 28 to 31, is not zero") \
-    next(NAUSTVRI_NOT_ABOVE_HOLDER, 44, "the reservation is not strictly above the holder in the same domain, or the holder's level is 15") \
+    next(NAUSTVRI_NOT_ABOVE_HOLDER, 44, "the reservation is not strictly above the holder in the same domain, or stands above a holder of level 15") \
     next(NAUSTVRI_REPEATED_REFERENCE, 45, "the reference of a present part stands in an earlier present part") \
     next(NAUSTVRI_LOOK_AHEAD_NOT_ALLOWED, 23, "a look-ahead whose LFB is not \"allowed\"") \
     next(NAUSTVRI_LOOK_AHEAD_BY_ROUTINE, 24, "a look-ahead by ROUTINE") \
@@ -80,7 +80,7 @@ extern "C" {
     next(NAUSTVRI_CAUSE_PRECEDENCE_CALL_BLOCKED, 46, "precedence call blocked, for a higher level")
 
 /* Precedence levels: 0 is the highest. NO_PRECEDENCE stands in a table's holder part only: a holder has it after a no-service event, and no call
- * can take its circuit. */
+ * can take its circuit. It is no level of a call, so it is no taker's and no loser's in the figures. */
 #define NAUSTVRI_LEVELS(first, next) \
     first(NAUSTVRI_FLASH_OVERRIDE, 0, "FLASH OVERRIDE") \
     next(NAUSTVRI_FLASH, 1, "FLASH") \
@@ -95,8 +95,8 @@ extern "C" {
     next(NAUSTVRI_LFB_PATH_RESERVED, 1, "path reserved") \
     next(NAUSTVRI_LFB_NOT_ALLOWED, 2, "not allowed")
 
-/* The kind of an event. A no-service event says that the called party of a holder is without the service: the holder loses its precedence and
- * keeps its circuit. */
+/* The kind of an event. A no-service event says that the called party of a holder is without the service: the holder keeps its circuit, its level
+ * becomes NO_PRECEDENCE and its domain zero, and a reservation above it is lost. A second one is answered by UNMARKED too and changes nothing. */
 #define NAUSTVRI_KINDS(first, next) \
     first(NAUSTVRI_SET_UP, 1, "set-up") \
     next(NAUSTVRI_RELEASE, 2, "release") \
@@ -136,7 +136,7 @@ enum naustvri_kind { NAUSTVRI_KINDS(NAUSTVRI_FIRST_CONSTANT, NAUSTVRI_NEXT_CONST
 #define NAUSTVRI_CIRCUIT_HOLDER_DOMAIN 2          /* octets 2 to 6 of the precedence parameter */
 #define NAUSTVRI_CIRCUIT_HOLDER_REFERENCE 7
 #define NAUSTVRI_CIRCUIT_RESERVED 12              /* flag of the reservation's part, octets 12 to 27 */
-#define NAUSTVRI_CIRCUIT_RESERVATION_LEVEL 13
+#define NAUSTVRI_CIRCUIT_RESERVATION_LEVEL 13     /* 0 to 4 */
 #define NAUSTVRI_CIRCUIT_RESERVATION_DOMAIN 14
 #define NAUSTVRI_CIRCUIT_RESERVATION_REFERENCE 19
 #define NAUSTVRI_CIRCUIT_RESERVATION_CLOCK 24     /* 4 octets: the clock at reservation */
@@ -163,12 +163,12 @@ enum naustvri_kind { NAUSTVRI_KINDS(NAUSTVRI_FIRST_CONSTANT, NAUSTVRI_NEXT_CONST
 /* The day's figures, 95 totals of 64 bits. */
 #define NAUSTVRI_FIGURES 95
 #define NAUSTVRI_FIGURE_LISTS 0         /* lists added */
-#define NAUSTVRI_FIGURE_START 1         /* holders in the table before each list */
+#define NAUSTVRI_FIGURE_START 1         /* holders in the table before each list: circuits whose octet 0 is 1 */
 #define NAUSTVRI_FIGURE_SEIZED 2        /* set-ups answered by 1 or 2 */
 #define NAUSTVRI_FIGURE_RELEASED 3      /* events answered by 5 */
 #define NAUSTVRI_FIGURE_LOST 4          /* holders that lost their circuit */
-#define NAUSTVRI_FIGURE_END 5           /* holders in the table after each list */
-#define NAUSTVRI_FIGURE_LOST_BY_LEVEL 6 /* 25 totals: holders that lost their circuit, at + 5 * the taker's level + the loser's level */
+#define NAUSTVRI_FIGURE_END 5           /* holders in the table after each list, counted so too */
+#define NAUSTVRI_FIGURE_LOST_BY_LEVEL 6 /* 25 totals: holders that lost their circuit, at + 5 * the taker's level + the loser's level, each 0 to 4 */
 #define NAUSTVRI_FIGURE_ANSWERED 31     /* 64 totals: events by the number that they were answered by, at + that number */
 
 /* The values of a precedence parameter. */

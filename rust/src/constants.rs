@@ -41,7 +41,7 @@ pub const CIRCUIT_HOLDER_DOMAIN: usize = 2;
 pub const CIRCUIT_HOLDER_REFERENCE: usize = 7;
 /// In a circuit: the flag of the reservation's part, octets 12 to 27.
 pub const CIRCUIT_RESERVED: usize = 12;
-/// In a circuit: the reservation's level.
+/// In a circuit: the reservation's level, 0 to 4.
 pub const CIRCUIT_RESERVATION_LEVEL: usize = 13;
 /// In a circuit: the reservation's domain.
 pub const CIRCUIT_RESERVATION_DOMAIN: usize = 14;
@@ -82,7 +82,7 @@ pub const NO_PLACE: u16 = 65535;
 pub const FIGURES: usize = 95;
 /// In the figures: lists added.
 pub const FIGURE_LISTS: usize = 0;
-/// In the figures: holders in the table before each list.
+/// In the figures: holders in the table before each list, that is circuits whose octet 0 is 1.
 pub const FIGURE_START: usize = 1;
 /// In the figures: set-ups answered by 1 or 2.
 pub const FIGURE_SEIZED: usize = 2;
@@ -90,9 +90,9 @@ pub const FIGURE_SEIZED: usize = 2;
 pub const FIGURE_RELEASED: usize = 3;
 /// In the figures: holders that lost their circuit.
 pub const FIGURE_LOST: usize = 4;
-/// In the figures: holders in the table after each list.
+/// In the figures: holders in the table after each list, counted so too.
 pub const FIGURE_END: usize = 5;
-/// In the figures: 25 totals, the holders that lost their circuit, at + 5 × the taker's level + the loser's level.
+/// In the figures: 25 totals, the holders that lost their circuit, at + 5 × the taker's level + the loser's level, each 0 to 4.
 pub const FIGURE_LOST_BY_LEVEL: usize = 6;
 /// In the figures: 64 totals, the events by the number that they were answered by, at + that number.
 pub const FIGURE_ANSWERED: usize = 31;

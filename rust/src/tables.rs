@@ -41,14 +41,14 @@ table! {
     RELEASED = 5, "the holder is gone";
     CANCELLED = 6, "the reservation is gone, a holder stays";
     CLOCK_TAKEN = 7, "the clock was looked at";
-    UNMARKED = 8, "the holder stays, without a precedence; a reservation above it is lost";
+    UNMARKED = 8, "the holder stays, without a precedence; a reservation above it, if there was one, is lost";
     WRONG_LENGTH = 20, "a length is wrong";
     TOO_MANY_LISTS = 60, "a list too many: the totals take no more";
     MALFORMED = 22, "the event or field is malformed";
     FLAG_OR_LEVEL = 41, "a flag is neither 0 nor 1, or the level of a present part is above 4 (a holder's may be 15 if its domain is zero)";
     DIGIT_OR_POINT_CODE = 42, "a digit of a present part is above 9, or a spare bit of its point code is set";
     NOT_ZERO = 43, "an octet of an absent part, or of octets 28 to 31, is not zero";
-    NOT_ABOVE_HOLDER = 44, "the reservation is not strictly above the holder in the same domain, or the holder's level is 15";
+    NOT_ABOVE_HOLDER = 44, "the reservation is not strictly above the holder in the same domain, or stands above a holder of level 15";
     REPEATED_REFERENCE = 45, "the reference of a present part stands in an earlier present part";
     LOOK_AHEAD_NOT_ALLOWED = 23, "a look-ahead whose LFB is not \"allowed\"";
     LOOK_AHEAD_BY_ROUTINE = 24, "a look-ahead by ROUTINE";

@@ -57,7 +57,7 @@ fn texts() {
         (number_name(8), number_meaning(8)),
         (
             "UNMARKED",
-            "the holder stays, without a precedence; a reservation above it is lost"
+            "the holder stays, without a precedence; a reservation above it, if there was one, is lost"
         )
     );
     assert_eq!(

@@ -22,7 +22,7 @@ use Rattle.rules.proofs.Lawful.{Tidy}
 use Rattle.rules.proofs.Records.{lawful}
 use Rattle.rules.proofs.Faults.{valid-facts}
 use Rattle.rules.proofs.Kept.{not-valid-refused}
-use Rattle.claims.specs.OneByOne.{NamedOnlyWhereLost}
+use Rattle.claims.specs.OneByOne.{NamedOnlyAt}
 use Rattle.rules.proofs.Grounds.{Grounds, decided}
 use Rattle.claims.proofs.Refused.{lengths-right, number-then, answer-then}
 
@@ -70,9 +70,9 @@ answered-lost t e =
     who-is-lost (circuitAt t) (circuits t) (λ i l. lawful .tidy-view t i (valid-facts records t v .blank i l)) (eventAt e) (outcomeOf records t (eventAt e)) (decided records t (eventAt e)))
     (λ v. not-valid-refused records (λ o. Lost (answerOf (circuitAt t) (circuits t) (eventAt e) o)) t (eventAt e) v (λ r. nobody-lost (refusalNumber r) (refusalDetail r)))
 
-pub named-only-where-lost : NamedOnlyWhereLost
+pub named-only-at : NamedOnlyAt
 unfolding records answerRecord
-named-only-where-lost t e place right =
+named-only-at t e place right =
     let q = lengths-right t e place right in
     let k = number-then t e place q in
     let lost = answered-lost t e in

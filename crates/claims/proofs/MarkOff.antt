@@ -1,7 +1,7 @@
 -- A kind 6 takes the mark off the holder that has its reference, and a second one of the same call changes nothing.
 use Prim.Native.Nat.{ℕ, _+_, _*_, _<_}
 use mathlib.Core.Path.{_≡_, refl, sym, ap, _∙_, subst}
-use mathlib.Core.Bool.{Bool, true, cond}
+use mathlib.Core.Bool.{Bool, true, false, cond}
 use mathlib.Core.List.{List}
 use native.Mathlib.Omega.{arith}
 use lib.ListN.{length}
@@ -13,18 +13,19 @@ use Rattle.rules.specs.declared.event.Event.{Event}
 use Rattle.rules.specs.declared.answer.Answer.{Answer}
 use Rattle.rules.specs.declared.search.Found.{Found}
 use Rattle.rules.specs.declared.outcome.Act.the-variants.{Unmark}
-use Rattle.rules.specs.declared.outcome.Refusal.the-variants.{NotThere}
+use Rattle.rules.specs.declared.outcome.Refusal.the-variants.{Malformed, NotThere}
 use Rattle.rules.specs.declared.outcome.Outcome.{Outcome}
 use Rattle.rules.specs.declared.outcome.Outcome.the-variants.{Refuse, Do}
 use Rattle.rules.specs.Numbers as number
 use Rattle.rules.specs.Search.{found}
 use Rattle.rules.specs.Circuit.{nobody, noPrecedence, isOf, made}
 use Rattle.rules.specs.Choice.{heldBy}
-use Rattle.rules.specs.Decision.{onHolder}
+use Rattle.rules.specs.Event.{wellFormed}
+use Rattle.rules.specs.Decision.{unless, onHolder, decision}
 use Rattle.rules.specs.Answer.{becomes, mayLose, answerOf}
-use Rattle.rules.specs.Valid.{valid}
-use Rattle.rules.specs.Run.{outcomeOf, after, answered, answerRecord}
-use Rattle.rules.specs.Records.{circuitAt, circuits, checkNumber, tableLength, eventSize, eventAt, loser, lostReservation, answerOctets, answerDetail, answerSize, records}
+use Rattle.rules.specs.Valid.{verdict, valid}
+use Rattle.rules.specs.Run.{ifSound, outcomeOf, after, answered, answerRecord}
+use Rattle.rules.specs.Records.{circuitAt, circuits, checkNumber, tableLength, eventSize, eventAt, loser, nobodyLost, answerFields, answerOctets, answerDetail, answerSize, records}
 use Rattle.rules.proofs.Records.{lawful}
 use Rattle.rules.proofs.Searches.{first-of, first-none}
 use Rattle.rules.proofs.Faults.{valid-facts}
@@ -32,11 +33,11 @@ use Rattle.rules.proofs.Check.{check-done}
 use Rattle.rules.proofs.Kept.{view-after}
 use Rattle.rules.proofs.Again.{by-no-service, table-again, answer-again}
 use Rattle.route.specs.Entries.{eventLengths, eventNumber, eventTable, eventAnswer}
-use Rattle.claims.specs.Demand.{StandsIn}
-use Rattle.claims.specs.NoService.{NoServiceOf, ComesOff, MarkComesOff, StaysUnmarked, SecondAccepted}
+use Rattle.claims.specs.Demand.{StandsIn, loserOctets}
+use Rattle.claims.specs.NoService.{NoServiceOf, ZeroParameter, ComesOff, MarkComesOff, StaysUnmarked, SecondAccepted}
 use Rattle.claims.proofs.Plain.{so-in, not-in}
 use Rattle.claims.proofs.Twice.{in-one-part}
-use Rattle.claims.proofs.Parties.{loser-named}
+use Rattle.claims.proofs.Served.{loser-octets}
 use Rattle.claims.proofs.Octets.{answer-detail, length-after}
 use Rattle.claims.proofs.Refused.{lengths-right, table-right, number-then, table-then, answer-then}
 
@@ -45,6 +46,18 @@ right-lengths : (t f place : List ℕ) {r : List ℕ} → tableLength (length t)
 unfolding eventLengths
 right-lengths t f place l g long =
     and-both _ _ l (and-both _ _ (eq-eqb (length f) eventSize (g .octets)) (eq-eqb (length place) answerSize long))
+
+-- ---- over any table
+malformed : (e : Event) → e .kind ≡ 6 → e .parameterless ≡ false → wellFormed e ≡ false
+unfolding wellFormed
+malformed e k p = simp (k, p)
+
+pub zero-parameter : ZeroParameter
+unfolding records answered answerOf outcomeOf
+zero-parameter t f place right k p =
+    number-then t f place (lengths-right t f place right)
+    ∙ ap (λ (b : Bool). answerOf (circuitAt t) (circuits t) (eventAt f) (unless b Malformed (ifSound (verdict records t) (decision (circuitAt t) (circuits t) (eventAt f)))) .number)
+    (malformed (eventAt f) k p)
 
 -- ---- over a table that the check takes
 module _ (t f place r : List ℕ) (takes : checkNumber t ≡ number.done) (g : NoServiceOf r f) (long : length place ≡ answerSize) where
@@ -100,23 +113,24 @@ module _ (t f place r : List ℕ) (takes : checkNumber t ≡ number.done) (g : N
         ∙ view-after records lawful t f sound d m
         ∙ ap (λ (o : Outcome). becomes e o d (x d)) decides
 
-    names-lost : lostReservation (eventAnswer t f place) ≡ loser (x c .reservation)
-    unfolding records answerRecord
-    names-lost = ap lostReservation (answer-then t f place right) ∙ ap (λ (a : Answer). loser (a .reservation)) answers
+    -- the reservation that is named as lost is the one that was there
+    names-lost : loser (x c .reservation) ≡ loserOctets (x c .reservation)
+    unfolding records
+    names-lost =
+        loser-octets (x c .reservation) (length-span t (32 * c + 12 + 7) 5)
+        (lawful .tidy-view t c (valid-facts records t sound .blank c l) .reservation)
 
     comes-off : ComesOff t f place r c
-    unfolding records
+    unfolding records answerRecord
     comes-off =
         record {
           accepted = number-then t f place right ∙ ap (λ (a : Answer). a .number) answers;
-          named = ap answerDetail (answer-then t f place right) ∙ answer-detail t f ∙ ap (λ (a : Answer). a .detail) answers;
+          answer = answer-then t f place right ∙ ap answerOctets answers ∙ ap (answerFields number.unmarked 0 c nobodyLost) names-lost;
           circuit =
               becomes-so c l
               ∙ ap (λ (b : Bool). cond b (made e Unmark (x c)) (x c)) (eq-eqb c c refl)
               ∙ (λ d. record { holder = record { present = holds .0 d; mark = noPrecedence; reference = holds .1 d }; reservation = nobody; clock = 0 });
           others = λ d m ne. becomes-so d m ∙ ap (λ (b : Bool). cond b (made e Unmark (x d)) (x d)) (ne-eqb c d (λ z. ne (sym z)));
-          lost = λ there. names-lost ∙ loser-named (x c .reservation) there (length-span t (32 * c + 12 + 7) 5);
-          none-lost = λ absent. names-lost ∙ ap loser (lawful .tidy-view t c (valid-facts records t sound .blank c l) .reservation absent);
         }
 
 pub mark-comes-off : MarkComesOff

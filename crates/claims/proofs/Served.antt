@@ -78,7 +78,7 @@ seized-number true (inr q) = omega arith
 seized-number false (inl q) = omega arith
 seized-number false (inr q) = omega arith
 
-loser-octets : (p : Part) → length (p .reference) ≡ 5 → (p .present ≡ false → p ≡ nobody) → loser p ≡ loserOctets p
+pub loser-octets : (p : Part) → length (p .reference) ≡ 5 → (p .present ≡ false → p ≡ nobody) → loser p ≡ loserOctets p
 loser-octets p five absent = go (p .present) refl
   where
     said : (b : Bool) → p .present ≡ b → cond b (1 ∷ p .reference) (replicate 6 0) ≡ loserOctets p

@@ -2,7 +2,7 @@
 use Prim.Native.Nat.{ℕ, _<_}
 use mathlib.Core.Path.{_≡_, refl, sym, ap, _∙_, subst}
 use mathlib.Core.Logic.{⊎-elim, _⊎_, inl, inr}
-use mathlib.Core.Bool.{Bool, true, cond}
+use mathlib.Core.Bool.{Bool, cond}
 use mathlib.Core.List.{List, [], _∷_, _++_, append-nil, append-assoc}
 use native.Mathlib.Omega.{arith}
 use borrow.Author.Tests.{eq-eqb}
@@ -13,7 +13,7 @@ use Rattle.rules.specs.Circuit.{noPrecedence, withoutPrecedence}
 use Rattle.rules.specs.Run.{answered, answerRecord}
 use Rattle.rules.specs.Records.{circuitAt, records, circuits, answerNumber, answerDetail, emptyTable}
 use Rattle.rules.proofs.Again.{eight-own}
-use Rattle.claims.specs.History.{Turn, asked, named, afterAnswer, afterTurn, empty, history}
+use Rattle.claims.specs.History.{Turn, asked, unmarkedCall, named, afterAnswer, afterTurn, empty, history}
 use Rattle.claims.specs.Lists.{EventList, tableAfter, past}
 use Rattle.claims.specs.Demand.{StandsIn}
 use Rattle.claims.specs.Accidents.{HolderGoes, released, higher-set-up, HolderStays, same-mark, unmarked, ReleasedAmong, NeverTaken}
@@ -24,9 +24,6 @@ use Rattle.claims.proofs.Start.{start-valid}
 use Rattle.claims.proofs.Demanded.{start-count, start-shows, history-then, ran-split}
 use Rattle.claims.proofs.Holders.{no-holder-lost}
 
-abbrev off : List ℕ → Part  -- the call with reference r, under no precedence
-off r = record { present = true; mark = noPrecedence; reference = r }
-
 -- ---- what is answered by 8, over table t, is the kind 6 of the holder of the circuit that the answer names
 held-there : (t : List ℕ) (p : Turn) → p .answer ≡ answerRecord records t (p .event) → answerNumber (p .answer) ≡ number.unmarked → let c = answerDetail (p .answer) in (c < circuits t) × StandsIn (asked p .reference) (circuitAt t c .holder)
 unfolding records
@@ -36,8 +33,8 @@ held-there t p a eight =
     let own = eight-own records t (p .event) (sym (ap answerNumber a ∙ answer-number t (p .event)) ∙ eight) in
     subst (λ (d : ℕ). (d < circuits t) × StandsIn r (circuitAt t d .holder)) (sym c) (own .there, stands-in r (circuitAt t _ .holder) (own .own))
 
--- the mark comes off at a turn that is answered by 8
-comes-off : (p : Turn) (y : Circuit) → answerNumber (p .answer) ≡ number.unmarked → StandsIn (asked p .reference) (y .holder) → afterTurn p (answerDetail (p .answer)) y .holder ≡ off (asked p .reference)
+-- the mark comes unmarkedCall at a turn that is answered by 8
+comes-off : (p : Turn) (y : Circuit) → answerNumber (p .answer) ≡ number.unmarked → StandsIn (asked p .reference) (y .holder) → afterTurn p (answerDetail (p .answer)) y .holder ≡ unmarkedCall (asked p .reference)
 unfolding afterAnswer named
 comes-off p y eight there =
     let c = answerDetail (p .answer) in
@@ -52,11 +49,11 @@ one-on before p = append-assoc before (p ∷ [])
 -- ---- from then on
 module _ (n : ℕ) (lists : List EventList) (c : ℕ) (l : c < n) (r : List ℕ) where
   -- at one turn such a holder stays, or is released
-  at-turn : (before : List Turn) (p : Turn) (later : List Turn) → past (emptyTable n) lists ≡ before ++ p ∷ later → history before c .holder ≡ off r → (history (before ++ p ∷ []) c .holder ≡ off r) ⊎ ReleasedAmong c r (p ∷ [])
+  at-turn : (before : List Turn) (p : Turn) (later : List Turn) → past (emptyTable n) lists ≡ before ++ p ∷ later → history before c .holder ≡ unmarkedCall r → (history (before ++ p ∷ []) c .holder ≡ unmarkedCall r) ⊎ ReleasedAmong c r (p ∷ [])
   at-turn before p later split h =
       ⊎-elim (λ s. inl (still s)) (λ g. inr (gone g)) (no-holder-lost n lists before p later split c l (ap (λ (q : Part). q .present) h))
     where
-      still : HolderStays c p (history before c) (history (before ++ p ∷ []) c) → history (before ++ p ∷ []) c .holder ≡ off r
+      still : HolderStays c p (history before c) (history (before ++ p ∷ []) c) → history (before ++ p ∷ []) c .holder ≡ unmarkedCall r
       still (same-mark s) = s ∙ h
       still (unmarked own eight s) = s ∙ ap withoutPrecedence h
 
@@ -95,7 +92,7 @@ module _ (n : ℕ) (lists : List EventList) (c : ℕ) (l : c < n) (r : List ℕ)
   among-after : (p : Turn) (ps : List Turn) → ReleasedAmong c r ps → ReleasedAmong c r (p ∷ ps)
   among-after p ps g = among g (p ∷ g .before) (g .later) (ap (λ (os : List Turn). p ∷ os) (g .split))
 
-  keeps : (since before later : List Turn) → past (emptyTable n) lists ≡ before ++ (since ++ later) → history before c .holder ≡ off r → (history (before ++ since) c .holder ≡ off r) ⊎ ReleasedAmong c r since
+  keeps : (since before later : List Turn) → past (emptyTable n) lists ≡ before ++ (since ++ later) → history before c .holder ≡ unmarkedCall r → (history (before ++ since) c .holder ≡ unmarkedCall r) ⊎ ReleasedAmong c r since
   keeps [] before later split h = inl (ap (λ (ps : List Turn). history ps c .holder) (append-nil before) ∙ h)
   keeps (p ∷ since) before later split h =
       ⊎-elim

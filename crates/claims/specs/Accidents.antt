@@ -9,9 +9,9 @@ use Rattle.octets.specs.Span.{zeros}
 use Rattle.rules.specs.Numbers as number
 use Rattle.rules.specs.declared.part.Part.{Part}
 use Rattle.rules.specs.declared.circuit.Circuit.{Circuit}
-use Rattle.rules.specs.Circuit.{nobody, noPrecedence, withoutPrecedence}
+use Rattle.rules.specs.Circuit.{nobody, withoutPrecedence}
 use Rattle.rules.specs.Records.{circuitAt, holderOctets, reservationOctets, answerNumber, answerDetail, lostCall, lostReservation, somebodyLost, emptyTable}
-use Rattle.claims.specs.History.{Turn, asked, afterTurn, history}
+use Rattle.claims.specs.History.{Turn, asked, unmarkedCall, afterTurn, history}
 use Rattle.claims.specs.Lists.{EventList, tableAfter, past}
 use Rattle.claims.specs.Demand.{StandsIn}
 
@@ -65,7 +65,7 @@ pub data Goes (c : ℕ) (p : Turn) (y : Circuit) : Type 0 where
   higher-call : (asked p .kind ≡ 1) ⊎ (asked p .kind ≡ 3) → Taken lostReservation c (y .reservation) p → Goes c p y
   -- a reservation goes by a clock event, answered by 7, at 3,000 steps or more
   overdue : asked p .kind ≡ 5 → answerNumber (p .answer) ≡ number.clockTaken → Old (asked p .clock) y → Goes c p y
-  -- a reservation goes where its holder's mark comes off, by the holder's kind 6, answered by 8 and the reservation's name
+  -- a reservation goes where the mark of the holder below it comes off, by that holder's kind 6, answered by 8 and the reservation's name
   mark-off :
       Own 6 c (y .holder) p → answerNumber (p .answer) ≡ number.unmarked
       → lostReservation (p .answer) ≡ somebodyLost (y .reservation .reference) → Goes c p y
@@ -102,8 +102,9 @@ pub data HolderStays (c : ℕ) (p : Turn) (y z : Circuit) : Type 0 where
       Own 6 c (y .holder) p → answerNumber (p .answer) ≡ number.unmarked
       → z .holder ≡ withoutPrecedence (y .holder) → HolderStays c p y z
 
--- a holder goes only by its release or the set-up of a strictly higher call in the same domain whose answer names it:
--- at a look-ahead "a holder stays", at a cancel "the other part stays", and a clock event takes reservations alone
+-- a holder stays under its mark, or under none by its own kind 6 (02, L4); it goes only by its release or, if its level is 0 to 4, by the set-up
+-- of a strictly higher call in the same domain whose answer names it: at a look-ahead "a holder stays", at a cancel "the other part stays", and a
+-- clock event takes reservations alone
 abbrev pub NoHolderLost : Type 0
 NoHolderLost = StaysOrGoes (λ y. y .holder) HolderStays HolderGoes
 
@@ -118,8 +119,8 @@ pub record ReleasedAmong (c : ℕ) (r : List ℕ) (turns : List Turn) : Type 0 w
   pub answer : answerNumber (turn .answer) ≡ number.released
   pub named : answerDetail (turn .answer) ≡ c
 
--- 02, L4: "such a holder is never takeable", in 001's words "to eliminate any chance that an MLPP call to a non-MLPP user will be preempted":
--- a call whose kind 6 was answered by 8 holds the circuit that the answer names, under no precedence, until its own release
+-- 02, L4: "such a holder is never takeable", in 001's words "to eliminate any chance that an MLPP call to a non-MLPP user will be preempted after
+-- the call is in service": a call whose kind 6 was answered by 8 holds the circuit that the answer names, under no precedence, until its own release
 abbrev pub NeverTaken : Type 0
 NeverTaken =
     (n : ℕ) (lists : List EventList) (before : List Turn) (p : Turn) (since later : List Turn)
@@ -127,7 +128,7 @@ NeverTaken =
     → answerNumber (p .answer) ≡ number.unmarked
     → let c = answerDetail (p .answer) in
     let r = asked p .reference in
-    (history (before ++ p ∷ since) c .holder ≡ record { present = true; mark = noPrecedence; reference = r }) ⊎ ReleasedAmong c r since
+    (history (before ++ p ∷ since) c .holder ≡ unmarkedCall r) ⊎ ReleasedAmong c r since
 
 -- call reference r stands in one part at most, where x c is what the history shows of circuit c
 pub record InOnePart (n : ℕ) (x : ℕ → Circuit) (r : List ℕ) : Type 0 where

@@ -2,7 +2,8 @@
 -- has reserved each circuit follows from the past events and answers alone; a well-formed set-up whose reference holds and reserves
 -- nothing is refused for want of a circuit exactly if none is free and none stands under a strictly lower precedence in the same
 -- domain; else it gets the first free one, failing that the lowest-precedence one by 01's tie rule, and the losers named are exactly
--- those the history shows there."
+-- those the history shows there." 02, L4, adds: "Demand 3 now reads these events too: such a holder stands there under no precedence that a call
+-- could beat, also where the call's domain is zero."
 use Prim.Native.Nat.{ℕ, _<_, _≤_}
 use mathlib.Core.Path.{_≡_}
 use mathlib.Core.Logic.{_↔_, _≢_, _⊎_}

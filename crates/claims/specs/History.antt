@@ -1,5 +1,6 @@
 -- The history tells who holds and who has reserved each circuit, under which mark and since which clock, from the past events and their
--- answers alone. It looks at no table.
+-- answers alone. It looks at no table. What it takes from the rules are words for a circuit with another holder or reservation; what these come
+-- to is said apart from them, by `NoMarkLeft`, `NoReservationLost`, `NoHolderLost` and `NeverTaken` (Accidents).
 use Prim.Native.Nat.{ℕ, _+_, _-_, _%_}
 use mathlib.Core.Bool.{Bool, true, cond, _&&_, _||_}
 use mathlib.Core.List.{List, [], _∷_}
@@ -7,7 +8,7 @@ use lib.Dec.{eqb, leb}
 use Rattle.rules.specs.declared.part.Part.{Part}
 use Rattle.rules.specs.declared.circuit.Circuit.{Circuit}
 use Rattle.rules.specs.declared.event.Event.{Event}
-use Rattle.rules.specs.Circuit.{nobody, withoutPrecedence, withHolder, withReservation, unreserved}
+use Rattle.rules.specs.Circuit.{nobody, noPrecedence, withoutPrecedence, withHolder, withReservation, unreserved}
 use Rattle.rules.specs.Numbers as number
 use Rattle.rules.specs.Records.{eventAt, answerNumber, answerDetail}
 
@@ -21,6 +22,9 @@ asked p = eventAt (p .event)
 
 abbrev pub caller : Event → Part  -- the event's call as it stands in a part: present, under the event's mark, by its reference
 caller e = record { present = true; mark = e .mark; reference = e .reference }
+
+abbrev pub unmarkedCall : List ℕ → Part  -- the call with reference r as it stands in a part under no precedence
+unmarkedCall r = record { present = true; mark = noPrecedence; reference = r }
 
 -- what event e, answered by number k, makes of the circuit y that the answer names
 unfoldable pub named : Event → ℕ → Circuit → Circuit

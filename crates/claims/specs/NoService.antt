@@ -7,10 +7,11 @@ use mathlib.Core.Bool.{true, false}
 use mathlib.Core.List.{List}
 use lib.ListN.{length}
 use Rattle.rules.specs.Numbers as number
-use Rattle.rules.specs.Circuit.{nobody, noPrecedence}
-use Rattle.rules.specs.Records.{circuitAt, circuits, checkNumber, eventSize, eventAt, answerSize, answerDetail, lostReservation, somebodyLost, nobodyLost, answerFields}
+use Rattle.rules.specs.Circuit.{nobody}
+use Rattle.rules.specs.Records.{circuitAt, circuits, checkNumber, eventSize, eventAt, answerSize, answerDetail, nobodyLost, answerFields}
 use Rattle.route.specs.Entries.{eventNumber, eventTable, eventAnswer}
-use Rattle.claims.specs.Demand.{StandsIn}
+use Rattle.claims.specs.History.{unmarkedCall}
+use Rattle.claims.specs.Demand.{StandsIn, loserOctets}
 
 -- "event kind 6, with a reference and a zero parameter": f is such an event, and r its reference
 pub record NoServiceOf (r f : List ℕ) : Type 0 where
@@ -19,21 +20,22 @@ pub record NoServiceOf (r f : List ℕ) : Type 0 where
   pub parameter : eventAt f .parameterless ≡ true
   pub reference : eventAt f .reference ≡ r
 
+-- so an event of kind 6 with another parameter is malformed, over any table
+abbrev pub ZeroParameter : Type 0
+ZeroParameter =
+    (t f place : List ℕ) → eventNumber t f place ≢ number.wrongLength → eventAt f .kind ≡ 6 → eventAt f .parameterless ≡ false
+    → eventNumber t f place ≡ 22
+
 -- event f over table t takes the mark off the call with reference r, which holds circuit c
 pub record ComesOff (t f place r : List ℕ) (c : ℕ) : Type 0 where
-  -- "8 is the accepting number, with the circuit in octets 2-3"
+  -- "8 is the accepting number, with the circuit in octets 2-3"; a reservation above the holder is "named in octets 10-15"
   pub accepted : eventNumber t f place ≡ number.unmarked
-  pub named : answerDetail (eventAnswer t f place) ≡ c
-  -- "the holder's level becomes 15 and its domain zero", its reference stays, and a reservation above it is lost, with its clock
-  pub circuit :
-      circuitAt (eventTable t f place) c
-      ≡ record { holder = record { present = true; mark = noPrecedence; reference = r }; reservation = nobody; clock = 0 }
+  pub answer : eventAnswer t f place ≡ answerFields number.unmarked 0 c nobodyLost (loserOctets (circuitAt t c .reservation))
+  -- "the holder's level becomes 15 and its domain zero", its reference stays, and the reservation "is lost", with its clock
+  pub circuit : circuitAt (eventTable t f place) c ≡ record { holder = unmarkedCall r; reservation = nobody; clock = 0 }
   pub others : (d : ℕ) → d < circuits t → d ≢ c → circuitAt (eventTable t f place) d ≡ circuitAt t d
-  -- "and named in octets 10-15"
-  pub lost : circuitAt t c .reservation .present ≡ true → lostReservation (eventAnswer t f place) ≡ somebodyLost (circuitAt t c .reservation .reference)
-  pub none-lost : circuitAt t c .reservation .present ≡ false → lostReservation (eventAnswer t f place) ≡ nobodyLost
 
--- over a table that the check takes the mark comes off the holder with this reference: "27 where there is no such holder"
+-- over a table that the check takes, the mark comes off the holder with this reference: "27 where there is no such holder"
 abbrev pub MarkComesOff : Type 0
 MarkComesOff =
     (t f place r : List ℕ) → checkNumber t ≡ number.done → NoServiceOf r f → length place ≡ answerSize

@@ -85,11 +85,11 @@ RefusedList =
 
 -- "The fields at 4 and 10 are filled for answers 2 and 4 only", and 02, L4: "a reservation above it is lost and named in octets 10-15".
 -- So octets 4-9 are zero but at 2, and octets 10-15 but at 2, 4 and 8.
-pub record OnlyWhereLost (t e place : List ℕ) : Type 0 where
+pub record OnlyAt (t e place : List ℕ) : Type 0 where
   pub call : eventNumber t e place ≢ number.seizedWithLoss → lostCall (eventAnswer t e place) ≡ nobodyLost
   pub reservation :
       eventNumber t e place ≢ number.seizedWithLoss → eventNumber t e place ≢ number.reservedWithLoss
       → eventNumber t e place ≢ number.unmarked → lostReservation (eventAnswer t e place) ≡ nobodyLost
 
-abbrev pub NamedOnlyWhereLost : Type 0
-NamedOnlyWhereLost = (t e place : List ℕ) → eventNumber t e place ≢ number.wrongLength → OnlyWhereLost t e place
+abbrev pub NamedOnlyAt : Type 0
+NamedOnlyAt = (t e place : List ℕ) → eventNumber t e place ≢ number.wrongLength → OnlyAt t e place

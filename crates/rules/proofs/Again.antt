@@ -1,4 +1,4 @@
--- In any lawful layout, once the mark is off a holder, another such event of the same call changes nothing and is accepted.
+-- In any lawful layout, once a kind 6 has taken the mark off a holder, another kind 6 of the same call changes nothing and is accepted.
 use Prim.Native.Nat.{ℕ, _<_}
 use mathlib.Core.Path.{_≡_, refl, sym, ap, _∙_, subst}
 use mathlib.Core.Logic.{_≢_}
@@ -43,7 +43,7 @@ module _ (x : ℕ → Circuit) (n : ℕ) (e : Event) where
   unfolding answerOf
   refusal-not r q = omega (arith, refusal-high r)
 
-  pub by-eight : (o : Outcome) → answerOf x n e o .number ≡ 8 → o ≡ Do Unmark (answerOf x n e o .detail)
+  by-eight : (o : Outcome) → answerOf x n e o .number ≡ 8 → o ≡ Do Unmark (answerOf x n e o .detail)
   unfolding answerOf
   by-eight (Refuse r) q = absurd (refusal-not r q)
   by-eight (Do Seize i) q =

@@ -24,21 +24,23 @@ pub fault-first : (v w : Verdict) → isValid v ≡ false → orFault v w ≡ v
 fault-first Valid w h = absurd (true≢false h)
 fault-first (Fault r i) w h = refl
 
--- f is true of the records that have a fault
-module _ {S : Type 0} (L : Layout S) (s : S) (f : ℕ → Bool) (h : (i : ℕ) → f i ≡ not (isValid (recordVerdict L s i))) where
+module _ {S : Type 0} (L : Layout S) (s : S) where
   abbrev v : ℕ → Verdict
   v = recordVerdict L s
 
-  step : (n : ℕ) (r : Found) → FirstIs f n r → orFault (found r v Valid) (v n) ≡ found (orElse r (cond (f n) (At n) Nothing)) v Valid
-  step n (At i) g = fault-first (v i) (v n) (not-true _ (sym (h i) ∙ g .1))
-  step n Nothing g =
-      by-so (f n)
-      (λ e. sym (ap (λ (b : Bool). found (cond b (At n) Nothing) v Valid) e))
-      (λ e. valid-is (v n) (not-false _ (sym (h n) ∙ e)) ∙ sym (ap (λ (b : Bool). found (cond b (At n) Nothing) v Valid) e))
+  abbrev pub bad : ℕ → Bool  -- record i has a fault by itself
+  bad i = not (isValid (v i))
 
-  pub first-fault : (n : ℕ) → recordsTo L s n ≡ found (firstTo f n) v Valid
+  step : (n : ℕ) (r : Found) → FirstIs bad n r → orFault (found r v Valid) (v n) ≡ found (orElse r (cond (bad n) (At n) Nothing)) v Valid
+  step n (At i) g = fault-first (v i) (v n) (not-true _ (g .1))
+  step n Nothing g =
+      by-so (bad n)
+      (λ e. sym (ap (λ (b : Bool). found (cond b (At n) Nothing) v Valid) e))
+      (λ e. valid-is (v n) (not-false _ e) ∙ sym (ap (λ (b : Bool). found (cond b (At n) Nothing) v Valid) e))
+
+  pub first-fault : (n : ℕ) → recordsTo L s n ≡ found (firstTo bad n) v Valid
   first-fault zero = refl
-  first-fault (suc n) = ap (λ (w : Verdict). orFault w (v n)) (first-fault n) ∙ step n (firstTo f n) (first-is f n)
+  first-fault (suc n) = ap (λ (w : Verdict). orFault w (v n)) (first-fault n) ∙ step n (firstTo bad n) (first-is bad n)
 
 -- what the first fault of table s is
 module _ {S : Type 0} (L : Layout S) (s : S) where
@@ -82,13 +84,10 @@ module _ {S : Type 0} (L : Layout S) (s : S) where
       go true false e f = refl
       go false d e f = refl
 
-  abbrev bad : ℕ → Bool
-  bad i = not (isValid (recordVerdict L s i))
-
-  sound-at : (i : ℕ) → bad i ≡ false → recordVerdict L s i ≡ Valid
+  sound-at : (i : ℕ) → bad L s i ≡ false → recordVerdict L s i ≡ Valid
   sound-at i h = valid-is (recordVerdict L s i) (not-false _ h)
 
-  in-record : (i : ℕ) → i < n → bad i ≡ true → SoundBelow i → (w : Verdict) → VerdictIs (orFault (recordVerdict L s i) w)
+  in-record : (i : ℕ) → i < n → bad L s i ≡ true → SoundBelow i → (w : Verdict) → VerdictIs (orFault (recordVerdict L s i) w)
   in-record i l h below w = go (recordVerdict L s i) refl (names i)
     where
       go : (v : Verdict) → recordVerdict L s i ≡ v → Names i v → VerdictIs (orFault v w)
@@ -105,9 +104,9 @@ module _ {S : Type 0} (L : Layout S) (s : S) where
   pub verdict-is : VerdictIs (verdict L s)
   unfolding verdict
   verdict-is =
-      subst (λ (v : Verdict). VerdictIs (orFault v (partsTo L s n))) (sym (first-fault L s bad (λ i. refl) n)) (go (firstTo bad n) (first-is bad n))
+      subst (λ (v : Verdict). VerdictIs (orFault v (partsTo L s n))) (sym (first-fault L s n)) (go (firstTo (bad L s) n) (first-is (bad L s) n))
     where
-      go : (r : Found) → FirstIs bad n r → VerdictIs (orFault (found r (recordVerdict L s) Valid) (partsTo L s n))
+      go : (r : Found) → FirstIs (bad L s) n r → VerdictIs (orFault (found r (recordVerdict L s) Valid) (partsTo L s n))
       go (At i) h = in-record i (h .0) (h .1) (λ j l. sound-at j (h .2 j l)) (partsTo L s n)
       go Nothing h = in-part (λ j l. sound-at j (h j l))
 

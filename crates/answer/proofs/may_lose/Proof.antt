@@ -1,4 +1,4 @@
--- Nobody for the holder.
+-- The holder that is named is nobody.
 use borrow.Author.Needs.{needs}
 use Rattle.answer.proofs.may_lose.Statement.{statement}
 use Rattle.answer.proofs.may_lose.Tie as tie

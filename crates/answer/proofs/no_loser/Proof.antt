@@ -1,4 +1,4 @@
--- Nobody for the reservation too.
+-- An answer that names no loser is one that may name a reservation, of nobody.
 use mathlib.Core.Path.{ap, _∙_}
 use Rattle.rules.specs.Answer.{mayLose}
 use borrow.Author.Needs.{needs}

@@ -1,7 +1,7 @@
 -- The loop has passed no record with a fault.
 use Prim.Native.Nat.{ℕ, _+_, _*_, _-_, _<_, _≤_}
-use mathlib.Core.Path.{_≡_, refl, sym, ap, _∙_}
-use mathlib.Core.Bool.{Bool, false, not}
+use mathlib.Core.Path.{_≡_, sym, ap, _∙_}
+use mathlib.Core.Bool.{false, not}
 use mathlib.Core.List.{List}
 use native.Mathlib.Omega.{arith}
 use denote.Ref.{now}
@@ -10,26 +10,23 @@ use borrow.Author.Needs.{needs}
 use Rattle.rules.specs.declared.search.Found.{Found}
 use Rattle.rules.specs.declared.verdict.Verdict.the-variants.{Valid}
 use Rattle.rules.specs.Search.{firstTo, found}
-use Rattle.rules.specs.Valid.{isValid, recordVerdict, recordsTo}
+use Rattle.rules.specs.Valid.{recordVerdict, recordsTo}
 use Rattle.rules.specs.Records.{records, circuits}
 use Rattle.rules.proofs.Searches.{first-of, first-none}
-use Rattle.rules.proofs.FirstFault.{first-fault}
+use Rattle.rules.proofs.FirstFault.{bad, first-fault}
 use Rattle.validity.specs.Code.{codeOf}
 use Rattle.validity.proofs.Codes.{digit-below, digit-zero, digit-fault, located}
 use Rattle.validity.proofs.each_record.Statement.{statement}
 use Rattle.validity.proofs.each_record.Tie as tie
 
-abbrev bad : List ℕ → ℕ → Bool  -- record i has a fault by itself
-bad t i = not (isValid (recordVerdict records t i))
-
 -- the code follows from the first record with a fault
-follows : (t : List ℕ) {r : Found} → firstTo (bad t) (circuits t) ≡ r → codeOf (found r (recordVerdict records t) Valid) ≡ codeOf (recordsTo records t (circuits t))
+follows : (t : List ℕ) {r : Found} → firstTo (bad records t) (circuits t) ≡ r → codeOf (found r (recordVerdict records t) Valid) ≡ codeOf (recordsTo records t (circuits t))
 follows t e =
     ap codeOf
-    (ap (λ (f : Found). found f (recordVerdict records t) Valid) (sym e) ∙ sym (first-fault records t (bad t) (λ i. refl) (circuits t)))
+    (ap (λ (f : Found). found f (recordVerdict records t) Valid) (sym e) ∙ sym (first-fault records t (circuits t)))
 
 abbrev Inv-loop : tie.InvT-loop
-Inv-loop t n i₀ i = (i ≤ n) × ((j : ℕ) → j < i → bad t j ≡ false) × (n ≡ circuits t)
+Inv-loop t n i₀ i = (i ≤ n) × ((j : ℕ) → j < i → bad records t j ≡ false) × (n ≡ circuits t)
 
 abbrev μ-loop : tie.MeasureT-loop
 μ-loop t n i₀ i = n - i
@@ -49,7 +46,7 @@ faulty c =
     let digit = c .before .before .judged .ensures in
     let fault = digit-fault (recordVerdict records t i) (λ z. c .before .if1 .taken (digit ∙ z)) in
     c .code .ensures ∙ ap (λ (d : ℕ). 8 * i + d) digit ∙ located records t i fault
-    ∙ follows t (first-of (bad t) (circuits t) i (let n = at .loop .inv .2 in omega arith) (at .loop .inv .1) (ap not fault))
+    ∙ follows t (first-of (bad records t) (circuits t) i (let n = at .loop .inv .2 in omega arith) (at .loop .inv .1) (ap not fault))
 
 again : tie.Need-loop-again Inv-loop μ-loop
 again c =
@@ -63,7 +60,7 @@ unfolding codeOf
 none c =
     let at = c .before in
     let t = now (at .before .before .before .args .t) in
-    follows t (first-none (bad t) (circuits t) (λ j l. at .loop .inv .1 j (let n = at .loop .inv .2 in omega arith)))
+    follows t (first-none (bad records t) (circuits t) (λ j l. at .loop .inv .1 j (let n = at .loop .inv .2 in omega arith)))
 
 pub each-record-spec : {M : Type 1} → statement M
 each-record-spec =
