@@ -1,8 +1,9 @@
 -- The customer says of a bad table (02, L2): "Answer with the record and the reason instead: a flag wrong, or the level of a present part; a
 -- digit or point code of a present part wrong; an absent part or spare octet not zero; a reservation not strictly above its holder in the
 -- same domain; a reference that stands in an earlier part. Reasons within records come first, lowest record first, in that order; the
--- repeated reference comes after all of them and names the later record, the lowest such if several." And of a holder whose mark came off (02, L4): "A table may
--- hold level 15 with zero domain in the holder part only (else 41), with no reservation above (else 44)." Here the reasons are said of octets.
+-- repeated reference comes after all of them and names the later record, the lowest such if several." And of a holder whose mark came off (02,
+-- L4): "A table may hold level 15 with zero domain in the holder part only (else 41), with no reservation above (else 44)." Here the reasons are
+-- said of octets.
 use Prim.Native.Nat.{ℕ, zero, suc, _+_, _*_, _/_, _%_, _<_, _≤_}
 use mathlib.Core.Path.{_≡_}
 use mathlib.Core.Logic.{_↔_, _⊎_, _≢_}
