@@ -28,7 +28,7 @@
 /* The version of this header: one number that grows, and its three parts. The major part grows where a host that ignores the change
  * would be wrong, the minor part with any other change that a host sees. */
 #define NAUSTVRI_VERSION_MAJOR 2
-#define NAUSTVRI_VERSION_MINOR 2
+#define NAUSTVRI_VERSION_MINOR 3
 #define NAUSTVRI_VERSION_PATCH 0
 #define NAUSTVRI_VERSION (NAUSTVRI_VERSION_MAJOR * 10000u + NAUSTVRI_VERSION_MINOR * 100u + NAUSTVRI_VERSION_PATCH)
 
@@ -40,10 +40,10 @@ extern "C" {
  * the end, the functions that give a value's name and meaning. A host may go through them too, by two macros of its own: `first` takes
  * the first row and `next` every other. */
 
-/* The numbers given back, in the order in which refusals are tried. At 20 and 60 nothing is written. 41 to 45 say why a table is not
- * valid, and come with the record that is bad. */
+/* The numbers given back, in the order in which refusals are tried. At 20 and 60 nothing is written. 61 to 63 are of the optional part alone; its
+ * writer tries 63 after 22. 41 to 45 say why a table is not valid, and come with the record that is bad. */
 #define NAUSTVRI_NUMBERS(first, next) \
-    first(NAUSTVRI_DONE, 0, "list carried out, table valid, or field read or written") \
+    first(NAUSTVRI_DONE, 0, "list carried out, table valid, or field or optional part read or written") \
     next(NAUSTVRI_SEIZED, 1, "the call holds the circuit, nobody lost one") \
     next(NAUSTVRI_SEIZED_WITH_LOSS, 2, "the call holds the circuit; a holder, a reservation or both lost it") \
     next(NAUSTVRI_RESERVED, 3, "the circuit is reserved, nobody lost a reservation") \
@@ -54,7 +54,10 @@ extern "C" {
     next(NAUSTVRI_UNMARKED, 8, "the holder stays, without a precedence; a reservation above it, if there was one, is lost") \
     next(NAUSTVRI_WRONG_LENGTH, 20, "a length is wrong") \
     next(NAUSTVRI_TOO_MANY_LISTS, 60, "a list too many: the totals take no more") \
-    next(NAUSTVRI_MALFORMED, 22, "the event or field is malformed") \
+    next(NAUSTVRI_PARAMETER_CUT_SHORT, 61, "the octets of the optional part run out inside a parameter") \
+    next(NAUSTVRI_NO_END, 62, "the octets of the optional part run out before a name") \
+    next(NAUSTVRI_PRECEDENCE_TWICE, 63, "precedence is given twice in one optional part or list") \
+    next(NAUSTVRI_MALFORMED, 22, "the event, field or parameter is malformed") \
     next(NAUSTVRI_FLAG_OR_LEVEL, 41, "a flag is neither 0 nor 1, or the level of a present part is above 4 (a holder's may be 15 if its domain is zero)") \
     next(NAUSTVRI_DIGIT_OR_POINT_CODE, 42, "a digit of a present part is above 9, or a spare bit of its point code is set") \
     next(NAUSTVRI_NOT_ZERO, 43, "an octet of an absent part, or of octets 28 to 31, is not zero") \
@@ -105,6 +108,11 @@ extern "C" {
     next(NAUSTVRI_CLOCK, 5, "clock") \
     next(NAUSTVRI_NO_SERVICE, 6, "no-service")
 
+/* The names of parameters that the library knows: name 0 ends an optional part. It passes over any other. */
+#define NAUSTVRI_NAMES(first, next) \
+    first(NAUSTVRI_NAME_END, 0, "end of optional parameters") \
+    next(NAUSTVRI_NAME_PRECEDENCE, 58, "MLPP precedence")
+
 /* No comma follows the last constant, as C89 has it. */
 #define NAUSTVRI_FIRST_CONSTANT(name, value, meaning) name = value
 #define NAUSTVRI_NEXT_CONSTANT(name, value, meaning) , name = value
@@ -113,6 +121,7 @@ enum naustvri_cause { NAUSTVRI_CAUSES(NAUSTVRI_FIRST_CONSTANT, NAUSTVRI_NEXT_CON
 enum naustvri_level { NAUSTVRI_LEVELS(NAUSTVRI_FIRST_CONSTANT, NAUSTVRI_NEXT_CONSTANT) };
 enum naustvri_lfb { NAUSTVRI_LFBS(NAUSTVRI_FIRST_CONSTANT, NAUSTVRI_NEXT_CONSTANT) };
 enum naustvri_kind { NAUSTVRI_KINDS(NAUSTVRI_FIRST_CONSTANT, NAUSTVRI_NEXT_CONSTANT) };
+enum naustvri_name { NAUSTVRI_NAMES(NAUSTVRI_FIRST_CONSTANT, NAUSTVRI_NEXT_CONSTANT) };
 #undef NAUSTVRI_FIRST_CONSTANT
 #undef NAUSTVRI_NEXT_CONSTANT
 
@@ -159,6 +168,11 @@ enum naustvri_kind { NAUSTVRI_KINDS(NAUSTVRI_FIRST_CONSTANT, NAUSTVRI_NEXT_CONST
 
 /* ANSWER_PLACE where there is none, and the record where none is named. */
 #define NAUSTVRI_NO_PLACE 65535
+
+/* A parameter in a lent list, before its contents. */
+#define NAUSTVRI_LISTED_NAME 0
+#define NAUSTVRI_LISTED_LENGTH 1   /* 2 octets, the low one first: how many octets of contents follow */
+#define NAUSTVRI_LISTED_CONTENTS 3
 
 /* The day's figures, 95 totals of 64 bits. */
 #define NAUSTVRI_FIGURES 95
@@ -209,6 +223,31 @@ struct naustvri_lamps_reading {
     uint64_t words[4];
 };
 
+/* What stands at a place of an optional part: a parameter, whose name is not 0; or the end or a refusal, where name, length and start are 0 and
+ * next is the place asked for. */
+struct naustvri_parameter {
+    uint8_t number;     /* 0, 61 or 62 */
+    uint8_t name;       /* 0 at the end and at a refusal */
+    uint8_t length;     /* how many octets of contents */
+    size_t start;       /* the place of the first of them */
+    size_t next;        /* the place of the next name */
+};
+
+/* Precedence in an optional part. At a refusal every value is zero. */
+struct naustvri_found_precedence {
+    uint8_t number;     /* 0, 61, 62, 63 or 22 */
+    uint8_t found;      /* 1 where there is precedence, else 0 */
+    size_t start;       /* the place of its six octets; 0 where there is none */
+    size_t end;         /* how many octets the part has, its end octet with them */
+    struct naustvri_precedence value; /* what the six octets say; zero where there is none */
+};
+
+/* What the writer of an optional part did. */
+struct naustvri_written_part {
+    uint8_t number;     /* 0, 20, 22 or 63 */
+    size_t end;         /* how many octets were written, the end octet with them; 0 at a refusal */
+};
+
 /* The version of the archive, as NAUSTVRI_VERSION is the header's. */
 uint32_t naustvri_version(void);
 
@@ -226,6 +265,30 @@ struct naustvri_reference_reading naustvri_read_reference(const uint8_t *octets,
 /* 0 with the five octets written, spare bits 0; 20 for a buffer of another length, 22 for a value that is too large. At 20 and
  * 22 the buffer is as it was. */
 uint8_t naustvri_write_reference(uint8_t *buffer, size_t buffer_len, struct naustvri_reference value);
+
+/* The optional part of a message: each parameter is a name octet, a length octet and as many octets of contents, and the first name 0 ends the
+ * part. Octets behind it are neither read nor refused.
+ *
+ * naustvri_next_parameter is one step: what stands at a place of the part, for a walk from place 0 by `next`. Number 0 with a name that is not 0: a
+ * parameter. 0 with name 0: the end, where the walk is over. 61: the part is cut short inside a parameter. 62: no octet is left where a name should
+ * stand, so at any place from part_len on. At the end and at a refusal `next` is the same place again. It looks at one parameter, so it gives no 63
+ * and no 22, and the contents are the sender's octets, spare bits and all. */
+struct naustvri_parameter naustvri_next_parameter(const uint8_t *part, size_t part_len, size_t place);
+
+/* MLPP precedence (name 58) in an optional part, which is gone through from place 0 to its end or to its first fault; other names are passed over,
+ * whatever they hold. 0: the part is whole, and `found` says whether it has precedence. 61 and 62: as above. 63: precedence a second time. 22:
+ * precedence that is not six well-formed octets, its length too. The first parameter with a fault decides, at one parameter in the order 61, 63,
+ * 22. At a refusal every value is zero. */
+struct naustvri_found_precedence naustvri_find_precedence(const uint8_t *part, size_t part_len);
+
+/* An optional part from a list of parameters: 0, with the parameters written in their order, each by name, length and contents, precedence with its
+ * spare bits 0, then one octet 0 as the end; octets of the buffer behind it stay. 20: the buffer has too little room, that is 2 octets a parameter,
+ * its contents, and 1 for the end; or the lent list is cut short inside a parameter. Then 22: a name 0, contents of more than 255 octets, or
+ * precedence that is not six well-formed octets. Then 63: precedence twice. At a refusal the buffer is as it was.
+ *
+ * The list is lent as octets, parameter after parameter: its name, how many octets of contents in two octets, the low one first, and the
+ * contents. It has no end octet. An empty list gives a part of one octet 0. */
+struct naustvri_written_part naustvri_write_optional(uint8_t *buffer, size_t buffer_len, const uint8_t *list, size_t list_len);
 
 /* Number 0 for a valid table, 20 for a length that is not 1 to 256 whole circuits; else 41 to 45 and the record that is bad. That is the
  * lowest record that has any of 41 to 44, with the first of them that it has: 41 of either part goes before 42 of either, and so on. Where no
@@ -320,6 +383,16 @@ NAUSTVRI_INLINE const char *naustvri_kind_name(unsigned kind)
 NAUSTVRI_INLINE const char *naustvri_kind_meaning(unsigned kind)
 {
     NAUSTVRI_TEXT(NAUSTVRI_KINDS, NAUSTVRI_MEANING, kind, "unknown kind")
+}
+
+NAUSTVRI_INLINE const char *naustvri_name_name(unsigned name)
+{
+    NAUSTVRI_TEXT(NAUSTVRI_NAMES, NAUSTVRI_NAME, name, "UNKNOWN")
+}
+
+NAUSTVRI_INLINE const char *naustvri_name_meaning(unsigned name)
+{
+    NAUSTVRI_TEXT(NAUSTVRI_NAMES, NAUSTVRI_MEANING, name, "unknown name")
 }
 
 #undef NAUSTVRI_TEXT
