@@ -1,4 +1,5 @@
-// These are the numbers given back: first those of what is accepted, then the refusals in the order in which they are tried.
+// These are the numbers given back: first those of what is accepted, then the refusals in the order in which they are tried. The writer of an
+// optional part alone tries 63 after 22.
 
 // The list was carried out, the table is valid, or the field was read or written.
 pub const DONE: u8 = 0;
@@ -20,6 +21,14 @@ pub const CLOCK_TAKEN: u8 = 7;
 pub const UNMARKED: u8 = 8;
 
 pub const WRONG_LENGTH: u8 = 20;
+
+// The octets of an optional part run out inside a parameter.
+pub const PARAMETER_CUT_SHORT: u8 = 61;
+
+// The octets of an optional part run out before a name.
+pub const NO_END: u8 = 62;
+
+pub const PRECEDENCE_TWICE: u8 = 63;
 
 pub const MALFORMED: u8 = 22;
 

@@ -1,0 +1,10 @@
+-- The values are none.
+use borrow.Author.Needs.{needs}
+use Rattle.optional.proofs.search.refused.Statement.{statement}
+use Rattle.optional.proofs.search.refused.Tie as tie
+
+returns : tie.Need-returns
+returns c = (cc)
+
+pub refused-spec : {M : Type 1} → statement M
+refused-spec = tie.close (tie.spec (λ c κs. search needs) returns)

@@ -1,0 +1,4 @@
+// The optional part of an initial address message is gone through parameter by parameter, and written from a list of parameters.
+pub mod part;
+pub mod reader;
+pub mod search;
