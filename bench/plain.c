@@ -105,6 +105,117 @@ uint8_t plain_write_reference(uint8_t *buffer, size_t buffer_len, struct naustvr
     return NAUSTVRI_DONE;
 }
 
+/* A parameter of an optional part: its name, how many octets of contents, and these. */
+enum { NAME = 0, LENGTH = 1, CONTENTS = 2 };
+
+/* What a step gives where no parameter stands: it stays at its place. */
+static struct naustvri_parameter stay(uint8_t number, size_t place)
+{
+    return (struct naustvri_parameter){.number = number, .next = place};
+}
+
+struct naustvri_parameter plain_next_parameter(const uint8_t *part, size_t part_len, size_t place)
+{
+    if (place >= part_len)
+        return stay(NAUSTVRI_NO_END, place);
+    if (part[place + NAME] == NAUSTVRI_NAME_END)
+        return stay(NAUSTVRI_DONE, place);
+    size_t left = part_len - place;
+    if (left < CONTENTS || left - CONTENTS < part[place + LENGTH])
+        return stay(NAUSTVRI_PARAMETER_CUT_SHORT, place);
+    struct naustvri_parameter parameter = {.name = part[place + NAME], .length = part[place + LENGTH]};
+    parameter.start = place + CONTENTS;
+    parameter.next = parameter.start + parameter.length;
+    return parameter;
+}
+
+static struct naustvri_found_precedence refuse_part(uint8_t number) { return (struct naustvri_found_precedence){.number = number}; }
+
+struct naustvri_found_precedence plain_find_precedence(const uint8_t *part, size_t part_len)
+{
+    struct naustvri_found_precedence found = {0};
+    struct naustvri_parameter parameter = plain_next_parameter(part, part_len, 0);
+    while (parameter.name != NAUSTVRI_NAME_END) {
+        if (parameter.name == NAUSTVRI_NAME_PRECEDENCE) {
+            if (found.found)
+                return refuse_part(NAUSTVRI_PRECEDENCE_TWICE);
+            struct naustvri_precedence_reading precedence = plain_read_precedence(part + parameter.start, parameter.length);
+            if (precedence.number != NAUSTVRI_DONE)
+                return refuse_part(NAUSTVRI_MALFORMED);
+            found.found = 1;
+            found.start = parameter.start;
+            found.value = precedence.value;
+        }
+        parameter = plain_next_parameter(part, part_len, parameter.next);
+    }
+    if (parameter.number != NAUSTVRI_DONE)
+        return refuse_part(parameter.number);
+    found.end = parameter.next + 1;
+    return found;
+}
+
+static bool is_precedence(const uint8_t *listed) { return listed[NAUSTVRI_LISTED_NAME] == NAUSTVRI_NAME_PRECEDENCE; }
+
+/* How many octets of contents a parameter of a list has, if they are all there. */
+static size_t listed_length(const uint8_t *listed)
+{
+    return listed[NAUSTVRI_LISTED_LENGTH] | (size_t)listed[NAUSTVRI_LISTED_LENGTH + 1] << 8;
+}
+
+/* Whether a parameter of a list can stand in a part. */
+static bool listed_ok(const uint8_t *listed)
+{
+    size_t length = listed_length(listed);
+    if (is_precedence(listed))
+        return length == NAUSTVRI_PRECEDENCE_SIZE && parameter_ok(listed + NAUSTVRI_LISTED_CONTENTS);
+    return listed[NAUSTVRI_LISTED_NAME] != NAUSTVRI_NAME_END && length <= UINT8_MAX;
+}
+
+/* Whether a list can be written into so much room: the writer's number. */
+static uint8_t judge_list(const uint8_t *list, size_t list_len, size_t room)
+{
+    size_t need = 1, precedences = 0, place = 0;
+    bool all_ok = true;
+    while (place < list_len) {
+        const uint8_t *listed = list + place;
+        size_t left = list_len - place;
+        if (left < NAUSTVRI_LISTED_CONTENTS || left - NAUSTVRI_LISTED_CONTENTS < listed_length(listed))
+            return NAUSTVRI_WRONG_LENGTH;
+        need += CONTENTS + listed_length(listed);
+        all_ok = all_ok && listed_ok(listed);
+        precedences += is_precedence(listed);
+        place += NAUSTVRI_LISTED_CONTENTS + listed_length(listed);
+    }
+    if (need > room)
+        return NAUSTVRI_WRONG_LENGTH;
+    if (!all_ok)
+        return NAUSTVRI_MALFORMED;
+    return precedences > 1 ? NAUSTVRI_PRECEDENCE_TWICE : NAUSTVRI_DONE;
+}
+
+/* Writes one parameter of a list: how many octets it takes in the part. Precedence gets its spare bits 0. */
+static size_t write_listed(uint8_t *buffer, const uint8_t *listed)
+{
+    size_t length = listed_length(listed);
+    buffer[NAME] = listed[NAUSTVRI_LISTED_NAME];
+    buffer[LENGTH] = (uint8_t)length;
+    memcpy(buffer + CONTENTS, listed + NAUSTVRI_LISTED_CONTENTS, length);
+    if (is_precedence(listed))
+        buffer[CONTENTS] = (uint8_t)(lfb_in(buffer + CONTENTS) << 5 | level_in(buffer + CONTENTS));
+    return CONTENTS + length;
+}
+
+struct naustvri_written_part plain_write_optional(uint8_t *buffer, size_t buffer_len, const uint8_t *list, size_t list_len)
+{
+    struct naustvri_written_part written = {.number = judge_list(list, list_len, buffer_len)};
+    if (written.number != NAUSTVRI_DONE)
+        return written;
+    for (size_t place = 0; place < list_len; place += NAUSTVRI_LISTED_CONTENTS + listed_length(list + place))
+        written.end += write_listed(buffer + written.end, list + place);
+    buffer[written.end++] = NAUSTVRI_NAME_END;
+    return written;
+}
+
 static bool table_length_ok(size_t n)
 {
     return n % NAUSTVRI_CIRCUIT_SIZE == 0 && n >= NAUSTVRI_CIRCUIT_SIZE && n <= NAUSTVRI_CIRCUITS_MOST * NAUSTVRI_CIRCUIT_SIZE;

@@ -45,6 +45,24 @@ static void lend_nothing(void)
     expect(naustvri_write_reference(NOTHING, 0, reference) == NAUSTVRI_WRONG_LENGTH, "write_reference into nothing gives 20");
 }
 
+/* No optional part, no list of parameters, or no room for a part. */
+static void lend_no_part(void)
+{
+    uint8_t room[2] = {1, 2};
+    struct naustvri_found_precedence found = naustvri_find_precedence(NOTHING, 0);
+    struct naustvri_parameter first = naustvri_next_parameter(NOTHING, 0, 0), later = naustvri_next_parameter(NOTHING, 0, 5);
+    struct naustvri_written_part nowhere = naustvri_write_optional(NOTHING, 0, NOTHING, 0);
+    struct naustvri_written_part written = naustvri_write_optional(room, 1, NOTHING, 0);
+    expect(found.number == NAUSTVRI_NO_END && found.found == 0, "find_precedence in nothing gives 62");
+    expect(found.start == 0 && found.end == 0 && found.value.service == 0, "at 62 every value is zero");
+    expect(first.number == NAUSTVRI_NO_END && first.next == 0, "next_parameter of nothing gives 62 and the place again");
+    expect(later.number == NAUSTVRI_NO_END && later.next == 5, "next_parameter behind nothing gives 62 and the place again");
+    expect(later.name == NAUSTVRI_NAME_END && later.length == 0 && later.start == 0, "at 62 there is no parameter");
+    expect(nowhere.number == NAUSTVRI_WRONG_LENGTH && nowhere.end == 0, "write_optional into nothing gives 20");
+    expect(written.number == NAUSTVRI_DONE && written.end == 1 && room[0] == NAUSTVRI_NAME_END, "an empty list gives one octet 0");
+    expect(room[1] == 2, "the octet behind the buffer stays");
+}
+
 /* Two circuits, of which the second is bad. */
 static void lend_damaged(void)
 {
@@ -138,6 +156,7 @@ static void print_all_texts(void)
     print_texts("level", naustvri_level_name, naustvri_level_meaning);
     print_texts("LFB", naustvri_lfb_name, naustvri_lfb_meaning);
     print_texts("kind", naustvri_kind_name, naustvri_kind_meaning);
+    print_texts("name", naustvri_name_name, naustvri_name_meaning);
 }
 #else
 static void print_all_texts(void)
@@ -150,6 +169,7 @@ int main(void)
 {
     unsigned empty;
     lend_nothing();
+    lend_no_part();
     lend_damaged();
     for (empty = 0; empty < 8; empty++)
         lend_some(empty);

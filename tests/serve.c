@@ -11,7 +11,8 @@
 
 #include "naustvri.h"
 
-enum entry { READ_PRECEDENCE, WRITE_PRECEDENCE, READ_REFERENCE, WRITE_REFERENCE, CHECK, EVENT, LIST, LAMPS, FIGURES, FLUSH };
+enum entry { READ_PRECEDENCE, WRITE_PRECEDENCE, READ_REFERENCE, WRITE_REFERENCE, CHECK, EVENT, LIST, LAMPS, FIGURES,
+             NEXT_PARAMETER, FIND_PRECEDENCE, WRITE_OPTIONAL, FLUSH };
 
 enum { BUFFERS = 4, LONGEST = 1 << 19, GUARD = 64, GUARD_OCTET = 0x5a, PAGE = 4096, AT_END = 255 };
 
@@ -22,6 +23,8 @@ struct request {
     uint32_t length[BUFFERS];
     struct naustvri_precedence precedence; /* to be written */
     struct naustvri_reference reference;
+    uint8_t unused_too[4];
+    uint64_t asked; /* the place of an optional part that a step is asked for */
 };
 
 struct response {
@@ -31,8 +34,12 @@ struct response {
     struct naustvri_precedence precedence; /* as read */
     struct naustvri_reference reference;
     uint16_t record; /* by the check or the lamp map */
-    uint8_t unused[6];
+    uint8_t name, length; /* of a parameter */
+    uint8_t found; /* whether there is precedence */
+    uint8_t unused[3];
     uint64_t words[4];
+    uint64_t start; /* the place of the contents */
+    uint64_t after; /* the place after the parameter, or after the end of the part that was read or written */
 };
 
 /* Memory for one buffer with guards, and no memory after it. */
@@ -77,14 +84,19 @@ static int guards_stand(const struct arena *a)
 }
 
 /* Readings: members are copied one by one, so that no padding of the library's goes into a response. */
+static void copy_precedence(struct naustvri_precedence *to, const struct naustvri_precedence *from)
+{
+    to->level = from->level;
+    to->lfb = from->lfb;
+    memcpy(to->digits, from->digits, sizeof to->digits);
+    to->service = from->service;
+}
+
 static void read_precedence(const struct arena *octets, struct response *r)
 {
     struct naustvri_precedence_reading precedence = naustvri_read_precedence(octets->buffer, octets->length);
     r->number = precedence.number;
-    r->precedence.level = precedence.value.level;
-    r->precedence.lfb = precedence.value.lfb;
-    memcpy(r->precedence.digits, precedence.value.digits, sizeof r->precedence.digits);
-    r->precedence.service = precedence.value.service;
+    copy_precedence(&r->precedence, &precedence.value);
 }
 
 static void read_reference(const struct arena *octets, struct response *r)
@@ -109,6 +121,51 @@ static void show_lamps(const struct arena *table, struct response *r)
     r->lit = lamps.lit;
     r->record = lamps.record;
     memcpy(r->words, lamps.words, sizeof r->words);
+}
+
+static void next_parameter(const struct arena *part, size_t place, struct response *r)
+{
+    struct naustvri_parameter parameter = naustvri_next_parameter(part->buffer, part->length, place);
+    r->number = parameter.number;
+    r->name = parameter.name;
+    r->length = parameter.length;
+    r->start = parameter.start;
+    r->after = parameter.next;
+}
+
+static void find_precedence(const struct arena *part, struct response *r)
+{
+    struct naustvri_found_precedence found = naustvri_find_precedence(part->buffer, part->length);
+    r->number = found.number;
+    r->found = found.found;
+    r->start = found.start;
+    r->after = found.end;
+    copy_precedence(&r->precedence, &found.value);
+}
+
+static void write_optional(const struct arena *buffer, const struct arena *list, struct response *r)
+{
+    struct naustvri_written_part written = naustvri_write_optional(buffer->buffer, buffer->length, list->buffer, list->length);
+    r->number = written.number;
+    r->after = written.end;
+}
+
+/* The functions of the optional part. */
+static void call_optional(const struct request *q, const struct arena *a, struct response *r)
+{
+    switch (q->entry) {
+    case NEXT_PARAMETER:
+        next_parameter(a, q->asked, r);
+        break;
+    case FIND_PRECEDENCE:
+        find_precedence(a, r);
+        break;
+    case WRITE_OPTIONAL:
+        write_optional(&a[0], &a[1], r);
+        break;
+    default:
+        exit(2);
+    }
 }
 
 static void call(const struct request *q, const struct arena *a, struct response *r)
@@ -143,7 +200,7 @@ static void call(const struct request *q, const struct arena *a, struct response
                                      (uint64_t *)(void *)a[3].buffer, a[3].length / sizeof(uint64_t));
         break;
     default:
-        exit(2);
+        call_optional(q, a, r);
     }
 }
 

@@ -3,7 +3,7 @@
 /// The major part of [`VERSION`]: it grows where a host that ignores the change would be wrong.
 pub const VERSION_MAJOR: u32 = 2;
 /// The minor part of [`VERSION`]: it grows with any other change that a host sees.
-pub const VERSION_MINOR: u32 = 2;
+pub const VERSION_MINOR: u32 = 3;
 /// The patch part of [`VERSION`].
 pub const VERSION_PATCH: u32 = 0;
 /// The version of this package, one number that grows; [`version()`](crate::version) is the archive's.
@@ -77,6 +77,13 @@ pub const ANSWER_RESERVATION_LOST: usize = 10;
 pub const ANSWER_LOST_RESERVATION: usize = 11;
 /// [`ANSWER_PLACE`] where there is none, and the record where none is named.
 pub const NO_PLACE: u16 = 65535;
+
+/// In a parameter of a lent list: its name.
+pub const LISTED_NAME: usize = 0;
+/// In a parameter of a lent list: two octets, the low one first, how many octets of contents follow.
+pub const LISTED_LENGTH: usize = 1;
+/// In a parameter of a lent list: its contents.
+pub const LISTED_CONTENTS: usize = 3;
 
 /// How many totals the day's figures have, 64 bits each.
 pub const FIGURES: usize = 95;

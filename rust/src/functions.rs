@@ -1,6 +1,9 @@
 // The functions of include/naustvri.h over slices.
 
-use crate::{raw, Check, LampsReading, Precedence, PrecedenceReading, Reference, ReferenceReading};
+use crate::{
+    raw, Check, FoundPrecedence, LampsReading, ParameterReading, Precedence, PrecedenceReading,
+    Reference, ReferenceReading, WrittenPart,
+};
 
 /// The version of the archive, as [`VERSION`](crate::VERSION) is this package's.
 #[must_use]
@@ -33,6 +36,38 @@ pub fn read_reference(octets: &[u8]) -> ReferenceReading {
 #[must_use]
 pub fn write_reference(buffer: &mut [u8], value: Reference) -> u8 {
     unsafe { raw::naustvri_write_reference(buffer.as_mut_ptr(), buffer.len(), value) }
+}
+
+/// One step through the optional part of a message: what stands at a place of it, for a walk from place 0 by `next`, as
+/// [`parameters`](crate::parameters) goes. Each parameter is a name octet, a length octet and as many octets of contents, and the first name 0 ends
+/// the part; octets behind it are neither read nor refused.
+///
+/// Number 0 with a name that is not 0: a parameter. 0 with name 0: the end, where the walk is over. 61: the part is cut short inside a parameter.
+/// 62: no octet is left where a name should stand, so at any place from `part.len()` on. At the end and at a refusal `next` is the same place again.
+/// It looks at one parameter, so it gives no 63 and no 22, and the contents are the sender's octets, spare bits and all.
+pub fn next_parameter(part: &[u8], place: usize) -> ParameterReading {
+    unsafe { raw::naustvri_next_parameter(part.as_ptr(), part.len(), place) }
+}
+
+/// MLPP precedence ([`NAME_PRECEDENCE`](crate::NAME_PRECEDENCE)) in an optional part, which is gone through from place 0 to its end or to its first
+/// fault; other names are passed over, whatever they hold. 0: the part is whole, and `found` says whether it has precedence. 61 and 62: as
+/// [`next_parameter`] gives them. 63: precedence a second time. 22: precedence that is not six well-formed octets, its length too. The first
+/// parameter with a fault decides, at one parameter in the order 61, 63, 22. At a refusal every value is zero.
+pub fn find_precedence(part: &[u8]) -> FoundPrecedence {
+    unsafe { raw::naustvri_find_precedence(part.as_ptr(), part.len()) }
+}
+
+/// An optional part from a list of parameters: 0, with the parameters written in their order, each by name, length and contents, precedence with its
+/// spare bits 0, then one octet 0 as the end; octets of the buffer behind it stay. 20: the buffer has too little room, that is 2 octets a parameter,
+/// its contents, and 1 for the end; or the lent list is cut short inside a parameter. Then 22: a name 0, contents of more than 255 octets, or
+/// precedence that is not six well-formed octets. Then 63: precedence twice. At a refusal the buffer is as it was.
+///
+/// The list is lent as octets, parameter after parameter: its name, how many octets of contents in two octets, the low one first, and the contents.
+/// It has no end octet. An empty list gives a part of one octet 0. [`push_parameter`](crate::push_parameter) puts a parameter into a list.
+pub fn write_optional(buffer: &mut [u8], list: &[u8]) -> WrittenPart {
+    unsafe {
+        raw::naustvri_write_optional(buffer.as_mut_ptr(), buffer.len(), list.as_ptr(), list.len())
+    }
 }
 
 /// Number 0 for a valid table, 20 for a length that is not 1 to 256 whole circuits; else 41 to 45 and the record that is bad. That is the lowest

@@ -30,6 +30,9 @@
 //!   decide nothing: every octet is made and judged by those functions, and every total is theirs. Where a table is not valid,
 //!   [`Refusal::BadRecord`] says which record is bad and by which [`Reason`].
 //!
+//! The optional part of a message stays octets: [`find_precedence`] says whether it carries MLPP precedence, and [`parameters`] goes through it, each
+//! contents a slice of it. [`push_parameter`] makes the list of parameters from which [`write_optional`] writes a part.
+//!
 //! What a host in C must do by itself, a borrow does here: a buffer that is written overlaps no other, and no other thread uses it meanwhile.
 //!
 //! Clocks and places have their low octet first; precedence, domain and reference stand as in their messages.
@@ -49,6 +52,7 @@ mod event;
 mod figures;
 mod functions;
 mod numbered;
+mod optional;
 mod raw;
 mod refusal;
 mod route;
@@ -61,6 +65,7 @@ pub use event::{Domain, Event};
 pub use figures::Figures;
 pub use functions::*;
 pub use numbered::{Kind, Level, Lfb, Reason};
+pub use optional::{parameters, push_parameter, Parameter, Parameters};
 pub use refusal::Refusal;
 pub use route::Route;
 pub use tables::*;

@@ -8,7 +8,8 @@ use crate::Reason;
 // An enum whose variants stand for the numbers of refusals, with the bad record in its place among them, and one for any other number.
 macro_rules! refusals {
     ({ $($before:ident = $of_before:ident,)* } BadRecord { $($after:ident = $of_after:ident,)* }) => {
-        /// Why the library refuses, in the order in which refusals are tried. Later versions have more.
+        /// Why the library refuses, in the order in which refusals are tried; [`write_optional`](crate::write_optional) alone tries
+        /// [`PrecedenceTwice`](Refusal::PrecedenceTwice) after [`Malformed`](Refusal::Malformed). Later versions have more.
         #[derive(Clone, Copy, Debug, PartialEq, Eq, Hash)]
         #[non_exhaustive]
         pub enum Refusal {
@@ -67,6 +68,9 @@ refusals! {
     {
         WrongLength = WRONG_LENGTH,
         TooManyLists = TOO_MANY_LISTS,
+        ParameterCutShort = PARAMETER_CUT_SHORT,
+        NoEnd = NO_END,
+        PrecedenceTwice = PRECEDENCE_TWICE,
         Malformed = MALFORMED,
     }
     BadRecord

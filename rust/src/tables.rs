@@ -29,11 +29,11 @@ macro_rules! table {
     };
 }
 
-// The numbers given back, in the order in which refusals are tried. At 20 and 60 nothing is written. 41 to 45 say why a table is not valid,
-// and come with the record that is bad.
+// The numbers given back, in the order in which refusals are tried. At 20 and 60 nothing is written. 61 to 63 are of the optional part alone; its
+// writer tries 63 after 22. 41 to 45 say why a table is not valid, and come with the record that is bad.
 table! {
     "number", number_name, number_meaning;
-    DONE = 0, "list carried out, table valid, or field read or written";
+    DONE = 0, "list carried out, table valid, or field or optional part read or written";
     SEIZED = 1, "the call holds the circuit, nobody lost one";
     SEIZED_WITH_LOSS = 2, "the call holds the circuit; a holder, a reservation or both lost it";
     RESERVED = 3, "the circuit is reserved, nobody lost a reservation";
@@ -44,7 +44,10 @@ table! {
     UNMARKED = 8, "the holder stays, without a precedence; a reservation above it, if there was one, is lost";
     WRONG_LENGTH = 20, "a length is wrong";
     TOO_MANY_LISTS = 60, "a list too many: the totals take no more";
-    MALFORMED = 22, "the event or field is malformed";
+    PARAMETER_CUT_SHORT = 61, "the octets of the optional part run out inside a parameter";
+    NO_END = 62, "the octets of the optional part run out before a name";
+    PRECEDENCE_TWICE = 63, "precedence is given twice in one optional part or list";
+    MALFORMED = 22, "the event, field or parameter is malformed";
     FLAG_OR_LEVEL = 41, "a flag is neither 0 nor 1, or the level of a present part is above 4 (a holder's may be 15 if its domain is zero)";
     DIGIT_OR_POINT_CODE = 42, "a digit of a present part is above 9, or a spare bit of its point code is set";
     NOT_ZERO = 43, "an octet of an absent part, or of octets 28 to 31, is not zero";
@@ -101,4 +104,11 @@ table! {
     CANCEL = 4, "cancel";
     CLOCK = 5, "clock";
     NO_SERVICE = 6, "no-service";
+}
+
+// The names of parameters that the library knows: name 0 ends an optional part. It passes over any other.
+table! {
+    "name", name_name, name_meaning;
+    NAME_END = 0, "end of optional parameters";
+    NAME_PRECEDENCE = 58, "MLPP precedence";
 }

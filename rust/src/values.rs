@@ -48,6 +48,52 @@ pub struct ReferenceReading {
     pub value: Reference,
 }
 
+/// What [`next_parameter`](crate::next_parameter) gives: a parameter, whose name is not 0; or the end or a refusal, where name, length and start
+/// are 0 and next is the place asked for.
+#[repr(C)]
+#[derive(Clone, Copy, Debug, PartialEq, Eq)]
+#[must_use]
+pub struct ParameterReading {
+    /// 0, or 61 or 62.
+    pub number: u8,
+    /// The name; 0 at the end and at a refusal.
+    pub name: u8,
+    /// How many octets of contents there are.
+    pub length: u8,
+    /// The place of the first of them.
+    pub start: usize,
+    /// The place of the next name.
+    pub next: usize,
+}
+
+/// What [`find_precedence`](crate::find_precedence) gives. At a refusal every value is zero.
+#[repr(C)]
+#[derive(Clone, Copy, Debug, PartialEq, Eq)]
+#[must_use]
+pub struct FoundPrecedence {
+    /// 0, or 61, 62, 63 or 22.
+    pub number: u8,
+    /// 1 where there is precedence, else 0.
+    pub found: u8,
+    /// The place of its six octets; 0 where there is none.
+    pub start: usize,
+    /// How many octets the part has, its end octet with them.
+    pub end: usize,
+    /// What the six octets say; zero where there is none.
+    pub value: Precedence,
+}
+
+/// What [`write_optional`](crate::write_optional) gives.
+#[repr(C)]
+#[derive(Clone, Copy, Debug, PartialEq, Eq)]
+#[must_use]
+pub struct WrittenPart {
+    /// 0, or 20, 22 or 63.
+    pub number: u8,
+    /// How many octets were written, the end octet with them; 0 at a refusal.
+    pub end: usize,
+}
+
 /// What [`check`](crate::check) gives.
 #[repr(C)]
 #[derive(Clone, Copy, Debug, PartialEq, Eq, Hash)]

@@ -1,6 +1,8 @@
-// Random events through both layers: the typed one answers what the functions over slices answer, and leaves the same table.
+// Random events through both layers: the typed one answers what the functions over slices answer, and leaves the same table. Random optional parts
+// likewise: the iterator gives what a walk by single steps gives, and a list put together by parameters is read back from the part written of it.
 
 use naustvri::*;
+use std::iter::FusedIterator;
 
 // Numbers that look random (xorshift).
 struct Random(u64);
@@ -324,5 +326,247 @@ fn damaged_tables() {
             seen[usize::from(reason.number())] > 0,
             "no table was refused by {reason}"
         );
+    }
+}
+
+// The optional part of an initial address message, and its parameters.
+const PART: [u8; 22] = [
+    0x0a, 0x07, 0x84, 0x13, 0x64, 0x18, 0x32, 0x54, 0x06, // place 0
+    0x39, 0x02, 0x3a, 0xc0, // place 9
+    0x3a, 0x06, 0x43, 0x04, 0x60, 0x00, 0x00, 0x01, // place 13
+    0x00, // place 21
+];
+const PARAMETERS: [Parameter; 3] = [
+    Parameter {
+        name: 10,
+        contents: &[0x84, 0x13, 0x64, 0x18, 0x32, 0x54, 0x06],
+    },
+    Parameter {
+        name: 57,
+        contents: &[0x3a, 0xc0],
+    },
+    Parameter {
+        name: NAME_PRECEDENCE,
+        contents: &[0x43, 0x04, 0x60, 0x00, 0x00, 0x01],
+    },
+];
+
+// Everything that the iterator gives. After that it gives nothing, however often it is asked.
+fn all<I: FusedIterator>(mut items: I) -> Vec<I::Item> {
+    let given = items.by_ref().collect();
+    assert!((0..3).all(|_| items.next().is_none()));
+    given
+}
+
+#[test]
+fn parameters_of_a_part() {
+    assert_eq!(all(parameters(&PART)), PARAMETERS.map(Ok));
+    // Octets behind the end are not looked at.
+    let longer = [&PART[..], &[7]].concat();
+    assert_eq!(all(parameters(&longer)), PARAMETERS.map(Ok));
+    assert_eq!(all(parameters(&[0, 7])), []);
+    // A copy of the iterator goes on by itself.
+    let mut items = parameters(&PART);
+    assert_eq!(items.next(), Some(Ok(PARAMETERS[0])));
+    assert_eq!(all(items.clone()), all(items));
+
+    // Of each prefix: the parameters that are whole, and one refusal.
+    for length in 0..PART.len() {
+        let whole = [9, 13, 21].iter().filter(|&&next| next <= length).count();
+        let number = match length {
+            0 | 9 | 13 | 21 => NO_END,
+            _ => PARAMETER_CUT_SHORT,
+        };
+        let mut wanted: Vec<_> = PARAMETERS[..whole].iter().copied().map(Ok).collect();
+        wanted.push(Err(number));
+        assert_eq!(all(parameters(&PART[..length])), wanted);
+    }
+}
+
+#[test]
+fn parameters_of_a_list() {
+    let mut list = [0xff; 13];
+    assert_eq!(push_parameter(&mut list, 0, 7, &[1, 2]), Some(5));
+    assert_eq!(push_parameter(&mut list, 5, 8, &[]), Some(8));
+    let wanted = [7, 2, 0, 1, 2, 8, 0, 0, 0xff, 0xff, 0xff, 0xff, 0xff];
+    assert_eq!(list, wanted);
+
+    // Too little room, by one octet and by any number of them.
+    for (at, contents) in [
+        (8, &[0; 3][..]),
+        (11, &[]),
+        (12, &[]),
+        (13, &[]),
+        (14, &[]),
+        (usize::MAX - 3, &[]),
+        (usize::MAX, &[]),
+        (usize::MAX - 8, &[0; 5]),
+    ] {
+        assert_eq!(push_parameter(&mut list, at, 9, contents), None);
+    }
+    assert_eq!(push_parameter(&mut [], 0, 9, &[]), None);
+    assert_eq!(list, wanted);
+    assert_eq!(push_parameter(&mut list, 8, 9, &[3, 4]), Some(13));
+    assert_eq!(list[8..], [9, 2, 0, 3, 4]);
+
+    // As many octets as two octets can count, and one more.
+    let (contents, mut list) = (vec![1; 65536], vec![0xff; 65540]);
+    assert_eq!(push_parameter(&mut list, 0, 7, &contents), None);
+    assert!(list.iter().all(|&octet| octet == 0xff));
+    let end = push_parameter(&mut list, 0, 7, &contents[1..]);
+    assert_eq!(end, Some(65538));
+    assert_eq!(list[..4], [7, 0xff, 0xff, 1]);
+    assert_eq!(list[65537..], [1, 0xff, 0xff]);
+
+    // A name 0 and 256 octets of contents are for the writer to refuse.
+    for (name, contents) in [(NAME_END, &[][..]), (7, &[0; 256])] {
+        let end = push_parameter(&mut list, 0, name, contents).unwrap();
+        let written = write_optional(&mut [0; 300], &list[..end]);
+        assert_eq!((written.number, written.end), (MALFORMED, 0));
+    }
+}
+
+#[test]
+fn part_with_another_precedence() {
+    let (mut list, mut end) = ([0; 64], 0);
+    for parameter in parameters(&PART) {
+        let Parameter { name, contents } = parameter.unwrap();
+        let mut changed = contents.to_vec();
+        if name == NAME_PRECEDENCE {
+            changed[0] = 0xc3;
+        }
+        end = push_parameter(&mut list, end, name, &changed).unwrap();
+    }
+    let mut buffer = [0xff; 32];
+    let written = write_optional(&mut buffer, &list[..end]);
+    assert_eq!((written.number, written.end), (DONE, 22));
+    assert_eq!(buffer[..22], PART);
+}
+
+// The name and the contents of a parameter. Precedence has any spare bits and is mostly well formed; other contents are short.
+fn draw_parameter(random: &mut Random) -> (u8, Vec<u8>) {
+    let name = [1, 10, 57, 58, 58, 255][random.below(6) as usize];
+    let length = match name {
+        NAME_PRECEDENCE => random.mostly_below(1, 1) + 6,
+        _ => random.below(4),
+    };
+    let mut contents: Vec<u8> = (0..length).map(|_| random.below(10) as u8).collect();
+    if name == NAME_PRECEDENCE {
+        contents[0] = random.below(256) as u8 & 0x94;
+    }
+    (name, contents)
+}
+
+// The octets of a part with a few parameters, of which one octet was changed or which was cut.
+fn damaged_part(random: &mut Random) -> Vec<u8> {
+    let mut part = Vec::new();
+    for _ in 0..random.below(4) {
+        let (name, contents) = draw_parameter(random);
+        part.extend([name, contents.len() as u8]);
+        part.extend(contents);
+    }
+    part.push(NAME_END);
+    let place = random.below(part.len() as u32) as usize;
+    match random.below(4) {
+        0 => part.truncate(place),
+        1 => part[place] = random.below(64) as u8,
+        _ => (),
+    }
+    part
+}
+
+// A walk by single steps: what the iterator gives, and what the search makes of it.
+fn walk(part: &[u8]) -> (Vec<Result<Parameter<'_>, u8>>, u8) {
+    let (mut items, mut place) = (Vec::new(), 0);
+    let (mut had, mut fault) = (false, DONE);
+    loop {
+        let reading = next_parameter(part, place);
+        if reading.number != DONE {
+            items.push(Err(reading.number));
+            return (items, if fault == DONE { reading.number } else { fault });
+        }
+        if reading.name == NAME_END {
+            assert_eq!(reading.next, place);
+            return (items, fault);
+        }
+        let (name, contents) = (reading.name, &part[reading.start..reading.next]);
+        assert_eq!(contents.len(), usize::from(reading.length));
+        items.push(Ok(Parameter { name, contents }));
+        if name == NAME_PRECEDENCE && fault == DONE {
+            if had {
+                fault = PRECEDENCE_TWICE;
+            } else if read_precedence(contents).number != DONE {
+                fault = MALFORMED;
+            }
+            had = true;
+        }
+        place = reading.next;
+    }
+}
+
+#[test]
+fn random_parts() {
+    let mut random = Random(0x0139_408d_cbbf_7a44);
+    let mut seen = [0; 256];
+    for _ in 0..4000 {
+        let part = damaged_part(&mut random);
+        let (items, number) = walk(&part);
+        assert_eq!(all(parameters(&part)), items);
+        let found = find_precedence(&part);
+        assert_eq!(found.number, number);
+        seen[usize::from(number)] += 1;
+        if found.found == 1 {
+            let octets = &part[found.start..found.start + PRECEDENCE_SIZE];
+            assert_eq!(read_precedence(octets).value, found.value);
+        }
+        if number == DONE {
+            assert_eq!(part[found.end - 1], NAME_END);
+            assert_eq!(all(parameters(&part[..found.end])), items);
+        }
+    }
+    for number in [0, 22, 61, 62, 63] {
+        assert!(seen[number] > 0, "no part was answered by {number}");
+    }
+}
+
+#[test]
+fn lists_there_and_back() {
+    let mut random = Random(0x6a09_e667_f3bc_c908);
+    let mut seen = [0; 256];
+    for _ in 0..4000 {
+        let drawn: Vec<_> = (0..random.below(5))
+            .map(|_| draw_parameter(&mut random))
+            .collect();
+        let (mut list, mut end, mut need) = ([0; 64], 0, 1);
+        for (name, contents) in &drawn {
+            end = push_parameter(&mut list, end, *name, contents).unwrap();
+            need += 2 + contents.len();
+        }
+        let mut buffer = vec![0xff; need + 1 - random.mostly_below(2, 2) as usize];
+        let room = buffer.len();
+        let written = write_optional(&mut buffer, &list[..end]);
+        seen[usize::from(written.number)] += 1;
+        if written.number != DONE {
+            assert_eq!((written.end, buffer), (0, vec![0xff; room]));
+            assert_eq!(written.number == WRONG_LENGTH, room < need);
+            continue;
+        }
+        assert_eq!(written.end, need);
+        assert!(buffer[need..].iter().all(|&octet| octet == 0xff));
+        let read: Result<Vec<Parameter>, u8> = parameters(&buffer).collect();
+        let mut wanted = drawn;
+        for (name, contents) in &mut wanted {
+            if *name == NAME_PRECEDENCE {
+                contents[0] &= 0x6f;
+            }
+        }
+        let wanted: Vec<Parameter> = wanted
+            .iter()
+            .map(|&(name, ref contents)| Parameter { name, contents })
+            .collect();
+        assert_eq!(read, Ok(wanted));
+    }
+    for number in [0, 20, 22, 63] {
+        assert!(seen[number] > 0, "no list was answered by {number}");
     }
 }

@@ -588,3 +588,233 @@ fn level_15_in_a_table() {
         refused_everywhere(&changed(changes), number, 0);
     }
 }
+
+// The optional part of an initial address message.
+const PART: [u8; 22] = [
+    0x0a, 0x07, 0x84, 0x13, 0x64, 0x18, 0x32, 0x54, 0x06, // place 0: a calling party number
+    0x39, 0x02, 0x3a, 0xc0, // place 9: what to do with name 58 where it is not known
+    0x3a, 0x06, 0x43, 0x04, 0x60, 0x00, 0x00, 0x01, // place 13: precedence
+    0x00, // place 21: the end
+];
+
+// The same parameters as a list, with a spare bit of precedence set.
+const LIST: [u8; 24] = [
+    0x0a, 0x07, 0x00, 0x84, 0x13, 0x64, 0x18, 0x32, 0x54, 0x06, // the first
+    0x39, 0x02, 0x00, 0x3a, 0xc0, // the second
+    0x3a, 0x06, 0x00, 0xc3, 0x04, 0x60, 0x00, 0x00, 0x01, // precedence
+];
+
+const PRECEDENCE: [u8; 8] = [58, 6, 0x43, 0x04, 0x60, 0, 0, 1];
+
+// Precedence of another length, of level 5, of LFB 11, and with a digit above 9.
+const WRONG_PRECEDENCES: [&[u8]; 6] = [
+    &[58, 0],
+    &[58, 5, 0x43, 0x04, 0x60, 0, 0],
+    &[58, 7, 0x43, 0x04, 0x60, 0, 0, 1, 0],
+    &[58, 6, 0x45, 0x04, 0x60, 0, 0, 1],
+    &[58, 6, 0x63, 0x04, 0x60, 0, 0, 1],
+    &[58, 6, 0x43, 0x04, 0x6a, 0, 0, 1],
+];
+
+// A parameter of a part as it stands in a list.
+fn listed(parameter: &[u8]) -> Vec<u8> {
+    [&parameter[..2], &[0], &parameter[2..]].concat()
+}
+
+// What a step gives at the end and at a refusal.
+fn stays(number: u8, place: usize) -> ParameterReading {
+    ParameterReading {
+        number,
+        name: NAME_END,
+        length: 0,
+        start: 0,
+        next: place,
+    }
+}
+
+// What the search gives at a refusal, and, by number 0, in a part of so many octets without precedence.
+fn not_found(number: u8, end: usize) -> FoundPrecedence {
+    FoundPrecedence {
+        number,
+        found: 0,
+        start: 0,
+        end,
+        value: Precedence::default(),
+    }
+}
+
+// What the search gives in `PART`.
+const FOUND: FoundPrecedence = FoundPrecedence {
+    number: DONE,
+    found: 1,
+    start: 15,
+    end: 22,
+    value: Precedence {
+        level: PRIORITY,
+        lfb: LFB_NOT_ALLOWED,
+        digits: [0, 4, 6, 0],
+        service: 1,
+    },
+};
+
+#[test]
+fn steps_through_a_part() {
+    let mut place = 0;
+    for (name, length, start, next) in [(10, 7, 2, 9), (57, 2, 11, 13), (58, 6, 15, 21)] {
+        let wanted = ParameterReading {
+            number: DONE,
+            name,
+            length,
+            start,
+            next,
+        };
+        assert_eq!(next_parameter(&PART, place), wanted);
+        place = next;
+    }
+    // The walk is over at the end: the next place is the same again.
+    assert_eq!(next_parameter(&PART, place), stays(DONE, 21));
+    for place in [22, 23, usize::MAX - 1, usize::MAX] {
+        assert_eq!(next_parameter(&PART, place), stays(NO_END, place));
+    }
+    // From a place where no name stands: 0xc0 is taken as a name, and 58 octets of contents are not there.
+    assert_eq!(next_parameter(&PART, 12), stays(PARAMETER_CUT_SHORT, 12));
+
+    // Precedence is one parameter among others here.
+    let twice = [&PRECEDENCE[..], &[58, 0], &[0]].concat();
+    assert_eq!(next_parameter(&twice, 8).number, DONE);
+    // Contents of no octets and of 255.
+    assert_eq!(next_parameter(&[7, 0, 0], 0).next, 2);
+    let longest = [&[7, 255][..], &[0; 255]].concat();
+    assert_eq!(next_parameter(&longest, 0).next, 257);
+    assert_eq!(
+        next_parameter(&longest[..256], 0),
+        stays(PARAMETER_CUT_SHORT, 0)
+    );
+}
+
+#[test]
+fn precedence_in_a_part() {
+    assert_eq!(find_precedence(&PART), FOUND);
+    // Octets behind the end, and spare bits.
+    let mut longer = [&PART[..], &PRECEDENCE, &[1]].concat();
+    assert_eq!(find_precedence(&longer), FOUND);
+    longer[15] |= 0x90;
+    assert_eq!(find_precedence(&longer), FOUND);
+
+    // Parts without precedence; the last has a call reference.
+    assert_eq!(find_precedence(&[0]), not_found(DONE, 1));
+    assert_eq!(find_precedence(&[0, 58, 0]), not_found(DONE, 1));
+    let part = [1, 5, 3, 2, 1, 0xde, 0x3f, 7, 0, 0];
+    assert_eq!(find_precedence(&part), not_found(DONE, 10));
+}
+
+#[test]
+fn every_prefix_of_a_part() {
+    for length in 0..PART.len() {
+        let number = match length {
+            0 | 9 | 13 | 21 => NO_END,
+            _ => PARAMETER_CUT_SHORT,
+        };
+        assert_eq!(find_precedence(&PART[..length]), not_found(number, 0));
+    }
+}
+
+#[test]
+fn parts_that_are_refused() {
+    let refused = |parts: &[&[u8]], number: u8| {
+        assert_eq!(find_precedence(&parts.concat()), not_found(number, 0));
+    };
+    for part in [&[1][..], &[58], &[1, 1], &[1, 3, 0, 0], &PRECEDENCE[..7]] {
+        refused(&[part], PARAMETER_CUT_SHORT);
+    }
+    // In the last the zeros are contents.
+    for part in [&[][..], &PRECEDENCE, &[7, 0], &[1, 2, 0, 0]] {
+        refused(&[part], NO_END);
+    }
+    refused(&[&PRECEDENCE, &PRECEDENCE, &[0]], PRECEDENCE_TWICE);
+    // At one parameter 61 goes before 63 and 22, and 63 before 22. The first parameter with a fault decides.
+    refused(&[&PRECEDENCE, &PRECEDENCE[..7]], PARAMETER_CUT_SHORT);
+    refused(&[&[58, 7, 0xff]], PARAMETER_CUT_SHORT);
+    refused(&[&PRECEDENCE, &PRECEDENCE, &[1]], PRECEDENCE_TWICE);
+    for wrong in WRONG_PRECEDENCES {
+        refused(&[wrong, &[0]], MALFORMED);
+        refused(&[wrong, &PRECEDENCE, &[1]], MALFORMED);
+        refused(&[&PRECEDENCE, wrong, &[0]], PRECEDENCE_TWICE);
+    }
+}
+
+fn write(buffer: &mut [u8], list: &[u8]) -> WrittenPart {
+    guarded(buffer, |buffer| write_optional(buffer, list))
+}
+
+#[test]
+fn part_from_a_list() {
+    // Buffers of the exact length and longer: octets behind the end stay.
+    for room in [22, 23, 40] {
+        let mut buffer = vec![0xff; room];
+        let written = WrittenPart {
+            number: DONE,
+            end: 22,
+        };
+        assert_eq!(write(&mut buffer, &LIST), written);
+        assert_eq!(buffer[..22], PART);
+        assert!(buffer[22..].iter().all(|&octet| octet == 0xff));
+        assert_eq!(find_precedence(&buffer), FOUND);
+    }
+
+    let mut buffer = [0xff; 3];
+    let written = WrittenPart {
+        number: DONE,
+        end: 1,
+    };
+    assert_eq!(write(&mut buffer, &[]), written);
+    assert_eq!(buffer, [0, 0xff, 0xff]);
+
+    // Contents of no octets and of 255.
+    let longest = [&[7, 0, 0, 7, 255, 0][..], &[1; 255]].concat();
+    let mut buffer = [0xff; 260];
+    let written = WrittenPart {
+        number: DONE,
+        end: 260,
+    };
+    assert_eq!(write(&mut buffer, &longest), written);
+    assert_eq!(buffer[..5], [7, 0, 7, 255, 1]);
+    assert_eq!(find_precedence(&buffer), not_found(DONE, 260));
+}
+
+#[test]
+fn lists_that_are_refused() {
+    let refused = |parts: &[&[u8]], room: usize, number: u8| {
+        let mut buffer = vec![0xff; room];
+        let written = WrittenPart { number, end: 0 };
+        assert_eq!(write(&mut buffer, &parts.concat()), written);
+        assert!(buffer.iter().all(|&octet| octet == 0xff));
+    };
+    // A list, and the octets that its part would have: with one octet less 20 goes before the number.
+    let refused_by = |parts: &[&[u8]], need: usize, number: u8| {
+        refused(parts, need, number);
+        refused(parts, need + 1, number);
+        refused(parts, need - 1, WRONG_LENGTH);
+    };
+    for room in 0..22 {
+        refused(&[&LIST], room, WRONG_LENGTH);
+    }
+    refused(&[], 0, WRONG_LENGTH);
+    // A list that is cut short, whatever the room.
+    for length in (1..LIST.len()).filter(|length| ![10, 15].contains(length)) {
+        refused(&[&LIST[..length]], 64, WRONG_LENGTH);
+    }
+    refused(&[&[0, 0, 0, 1]], 64, WRONG_LENGTH);
+
+    refused_by(&[&[0, 0, 0]], 3, MALFORMED);
+    refused_by(&[&[7, 0, 1], &[0; 256]], 259, MALFORMED);
+    // 22 anywhere in the list goes before 63.
+    let precedence = listed(&PRECEDENCE);
+    refused_by(&[&precedence, &precedence], 17, PRECEDENCE_TWICE);
+    refused_by(&[&precedence, &precedence, &[0, 0, 0]], 19, MALFORMED);
+    for wrong in WRONG_PRECEDENCES {
+        let need = wrong.len() + 1;
+        refused_by(&[&listed(wrong)], need, MALFORMED);
+        refused_by(&[&precedence, &listed(wrong)], need + 8, MALFORMED);
+    }
+}

@@ -42,7 +42,7 @@ fn enums_there_and_back() {
             Reason::ALL.len(),
             Refusal::ALL.len()
         ),
-        (5, 3, 6, 5, 12)
+        (5, 3, 6, 5, 15)
     );
     assert_eq!(Level::from_number(NO_PRECEDENCE), None);
 }
@@ -64,6 +64,39 @@ fn texts() {
         (number_name(60), number_meaning(60)),
         ("TOO_MANY_LISTS", "a list too many: the totals take no more")
     );
+    assert_eq!(
+        (number_name(0), number_meaning(0)),
+        (
+            "DONE",
+            "list carried out, table valid, or field or optional part read or written"
+        )
+    );
+    assert_eq!(
+        (number_name(22), number_meaning(22)),
+        ("MALFORMED", "the event, field or parameter is malformed")
+    );
+    for (number, name, meaning) in [
+        (
+            61,
+            "PARAMETER_CUT_SHORT",
+            "the octets of the optional part run out inside a parameter",
+        ),
+        (
+            62,
+            "NO_END",
+            "the octets of the optional part run out before a name",
+        ),
+        (
+            63,
+            "PRECEDENCE_TWICE",
+            "precedence is given twice in one optional part or list",
+        ),
+    ] {
+        assert_eq!(
+            (number_name(number), number_meaning(number)),
+            (name, meaning)
+        );
+    }
     assert_eq!(
         (cause_name(46), cause_meaning(46)),
         (
@@ -92,6 +125,14 @@ fn texts() {
         ("NO_SERVICE", "no-service")
     );
     assert_eq!(
+        (name_name(0), name_meaning(0)),
+        ("NAME_END", "end of optional parameters")
+    );
+    assert_eq!(
+        (name_name(58), name_meaning(58)),
+        ("NAME_PRECEDENCE", "MLPP precedence")
+    );
+    assert_eq!(
         (number_name(21), number_meaning(21)),
         ("UNKNOWN", "unknown number")
     );
@@ -105,6 +146,7 @@ fn texts() {
     );
     assert_eq!((lfb_name(3), lfb_meaning(3)), ("UNKNOWN", "unknown LFB"));
     assert_eq!((kind_name(0), kind_meaning(0)), ("UNKNOWN", "unknown kind"));
+    assert_eq!((name_name(1), name_meaning(1)), ("UNKNOWN", "unknown name"));
     assert_eq!(
         (Level::Routine.name(), Kind::SetUp.to_string()),
         ("ROUTINE", String::from("set-up"))
@@ -130,6 +172,10 @@ fn refusals_are_errors() {
     assert_eq!(
         Refusal::WrongLength.to_string(),
         "20 WRONG_LENGTH: a length is wrong"
+    );
+    assert_eq!(
+        Refusal::NoEnd.to_string(),
+        "62 NO_END: the octets of the optional part run out before a name"
     );
     assert_eq!(
         Refusal::Unknown(99).to_string(),

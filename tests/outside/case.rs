@@ -4,16 +4,18 @@ use std::ops::Range;
 
 use crate::figures;
 use crate::independent::{self, CallReference, Check, Precedence};
+use crate::optional::{self, Found, Step};
 use crate::random::Random;
 
 const AT_END: u8 = 255;
-const FLUSH: u8 = 9;
+const FLUSH: u8 = 12;
 
 // How many buffers a request may have.
 const BUFFERS: usize = 4;
 
-// The octets of the response before the buffers: number, guards, lamps lit, precedence, reference, record, words.
-pub const RESPONSE: usize = 64;
+// The octets of the response before the buffers: number, guards, lamps lit, precedence, reference, record, name, length, whether precedence was
+// found, words, the place of contents and the place after what was read or written.
+pub const RESPONSE: usize = 80;
 
 // Where the record stands among them.
 pub const RECORD: Range<usize> = 24..26;
@@ -24,6 +26,14 @@ pub struct Case {
     pub expected: Vec<u8>,
 }
 
+// What goes out beside the buffers: values to be written, and the place that a step is asked for.
+#[derive(Default)]
+struct Given {
+    precedence: Precedence,
+    reference: CallReference,
+    asked: usize,
+}
+
 // What comes back beside the number.
 #[derive(Default)]
 struct Values {
@@ -32,6 +42,11 @@ struct Values {
     record: u16,
     lit: u16,
     words: [u64; 4],
+    name: u8,
+    length: u8,
+    found: u8,
+    start: usize,
+    after: usize,
 }
 
 fn write_precedence(octets: &mut Vec<u8>, value: &Precedence) {
@@ -47,7 +62,11 @@ fn write_reference(octets: &mut Vec<u8>, value: &CallReference) {
     octets.extend([0; 2]);
 }
 
-fn request(random: &mut Random, entry: u8, precedence: &Precedence, reference: &CallReference, buffers: &[&[u8]]) -> Vec<u8> {
+fn write_place(octets: &mut Vec<u8>, place: usize) {
+    octets.extend((place as u64).to_le_bytes());
+}
+
+fn request(random: &mut Random, entry: u8, given: &Given, buffers: &[&[u8]]) -> Vec<u8> {
     let mut octets = vec![entry];
     for _ in 0..BUFFERS - 1 {
         octets.push(if random.once_in(3) { AT_END } else { random.below(16) as u8 });
@@ -58,8 +77,10 @@ fn request(random: &mut Random, entry: u8, precedence: &Precedence, reference: &
     for i in 0..BUFFERS {
         octets.extend((buffers.get(i).map_or(0, |b| b.len()) as u32).to_le_bytes());
     }
-    write_precedence(&mut octets, precedence);
-    write_reference(&mut octets, reference);
+    write_precedence(&mut octets, &given.precedence);
+    write_reference(&mut octets, &given.reference);
+    octets.extend([0; 4]);
+    write_place(&mut octets, given.asked);
     buffers.iter().for_each(|b| octets.extend(*b));
     octets
 }
@@ -70,22 +91,25 @@ fn response(number: u8, values: &Values, buffers: &[&[u8]]) -> Vec<u8> {
     write_precedence(&mut octets, &values.precedence);
     write_reference(&mut octets, &values.reference);
     octets.extend(values.record.to_le_bytes());
-    octets.extend([0; 6]);
+    octets.extend([values.name, values.length, values.found]);
+    octets.extend([0; 3]);
     values.words.iter().for_each(|w| octets.extend(w.to_le_bytes()));
+    write_place(&mut octets, values.start);
+    write_place(&mut octets, values.after);
     buffers.iter().for_each(|b| octets.extend(*b));
     octets
 }
 
 // The serving program writes out what it holds back.
 pub fn flush() -> Vec<u8> {
-    request(&mut Random::new(0), FLUSH, &Precedence::default(), &CallReference::default(), &[])
+    request(&mut Random::new(0), FLUSH, &Given::default(), &[])
 }
 
 // A call that takes one buffer which stays as it is.
 fn reading(random: &mut Random, what: &'static str, entry: u8, octets: &[u8], number: u8, values: Values) -> Case {
     Case {
         what,
-        request: request(random, entry, &Precedence::default(), &CallReference::default(), &[octets]),
+        request: request(random, entry, &Given::default(), &[octets]),
         expected: response(number, &values, &[octets]),
     }
 }
@@ -100,7 +124,7 @@ pub fn write_precedence_in(random: &mut Random, buffer: &[u8], value: &Precedenc
     let number = independent::write_precedence(&mut after, value);
     Case {
         what: "write precedence",
-        request: request(random, 1, value, &CallReference::default(), &[buffer]),
+        request: request(random, 1, &Given { precedence: *value, ..Given::default() }, &[buffer]),
         expected: response(number, &Values::default(), &[&after]),
     }
 }
@@ -115,7 +139,7 @@ pub fn write_reference_in(random: &mut Random, buffer: &[u8], value: &CallRefere
     let number = independent::write_reference(&mut after, value);
     Case {
         what: "write reference",
-        request: request(random, 3, &Precedence::default(), value, &[buffer]),
+        request: request(random, 3, &Given { reference: *value, ..Given::default() }, &[buffer]),
         expected: response(number, &Values::default(), &[&after]),
     }
 }
@@ -142,7 +166,7 @@ impl Application<'_> {
         let before = [self.table, self.events, self.answers];
         Case {
             what,
-            request: request(random, entry, &Precedence::default(), &CallReference::default(), &before),
+            request: request(random, entry, &Given::default(), &before),
             expected: response(number, &Values::default(), &[table, self.events, answers]),
         }
     }
@@ -172,9 +196,32 @@ fn number_octets(numbers: &[u64]) -> Vec<u8> {
 // A list that is added to totals. Table and totals become what it leaves.
 pub fn figures(random: &mut Random, table: &mut [u8], events: &[u8], answers: &[u8], totals: &mut [u64]) -> Case {
     let before: [&[u8]; BUFFERS] = [table, events, answers, &number_octets(totals)];
-    let request = request(random, 8, &Precedence::default(), &CallReference::default(), &before);
+    let request = request(random, 8, &Given::default(), &before);
     let mut told = answers.to_vec();
     let number = figures::figures(table, events, &mut told, totals);
     let expected = response(number, &Values::default(), &[table, events, &told, &number_octets(totals)]);
     Case { what: "figures", request, expected }
+}
+
+pub fn next_parameter(random: &mut Random, part: &[u8], place: usize) -> Case {
+    let Step { number, name, length, start, next } = optional::next_parameter(part, place);
+    let values = Values { name, length, start, after: next, ..Values::default() };
+    Case {
+        what: "next parameter",
+        request: request(random, 9, &Given { asked: place, ..Given::default() }, &[part]),
+        expected: response(number, &values, &[part]),
+    }
+}
+
+pub fn find_precedence(random: &mut Random, part: &[u8]) -> Case {
+    let Found { number, found, start, end, value } = optional::find_precedence(part);
+    let values = Values { precedence: value, found, start, after: end, ..Values::default() };
+    reading(random, "find precedence", 10, part, number, values)
+}
+
+// A list that is written into a buffer, which becomes what that leaves.
+pub fn write_optional(random: &mut Random, buffer: &mut [u8], list: &[u8]) -> Case {
+    let request = request(random, 11, &Given::default(), &[buffer, list]);
+    let (number, after) = optional::write_optional(buffer, list);
+    Case { what: "write optional", request, expected: response(number, &Values { after, ..Values::default() }, &[buffer, list]) }
 }

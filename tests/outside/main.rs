@@ -1,4 +1,5 @@
-// Holds the library, which a program serves over pipes, to an independent implementation of document 01 and of document 02's L1, L2 and L4.
+// Holds the library, which a program serves over pipes, to an independent implementation of document 01 and of document 02's L1, L2, L4
+// and L5.
 //
 //   outside SEED rounds COUNT SERVER..      so many rounds
 //   outside SEED seconds COUNT SERVER..     rounds for so long, with a line now and then
@@ -11,7 +12,9 @@ mod days;
 mod exchange;
 mod figures;
 mod independent;
+mod optional;
 mod paper;
+mod parts;
 mod random;
 mod strings;
 mod traffic;
@@ -42,6 +45,17 @@ struct Tally {
     checked: [usize; 256],
     // How often each number was given to a list that was to be added to totals.
     added: [usize; 256],
+    // How often each number was given to the search for precedence in an optional part.
+    searched: [usize; 256],
+    // How often each number was given to a list of parameters that was to be written.
+    written: [usize; 256],
+}
+
+impl Tally {
+    fn new() -> Tally {
+        let none = [0; 256];
+        Tally { rounds: 0, calls: 0, events: 0, numbers: none, checked: none, added: none, searched: none, written: none }
+    }
 }
 
 fn lists(random: &mut Random, tally: &mut Tally, give: &mut dyn FnMut(Case)) {
@@ -95,6 +109,17 @@ fn days(random: &mut Random, tally: &mut Tally, give: &mut dyn FnMut(Case)) {
     });
 }
 
+fn parts(random: &mut Random, seed: u64, tally: &mut Tally, give: &mut dyn FnMut(Case)) {
+    parts::cases(random, seed, &mut |case| {
+        match case.what {
+            "find precedence" => tally.searched[case.expected[0] as usize] += 1,
+            "write optional" => tally.written[case.expected[0] as usize] += 1,
+            _ => {}
+        }
+        give(case);
+    });
+}
+
 fn round(seed: u64, tally: &mut Tally, exchange: &mut Exchange) -> bool {
     let mut random = Random::new(seed);
     let (mut going, mut calls) = (true, 0);
@@ -109,16 +134,18 @@ fn round(seed: u64, tally: &mut Tally, exchange: &mut Exchange) -> bool {
         strings::cases(&mut random, &mut give);
     }
     days(&mut random, tally, &mut give);
+    parts(&mut random, seed, tally, &mut give);
     tally.rounds += 1;
     tally.calls += calls;
     going
 }
 
 fn say(tally: &Tally, since: Instant, end: &str) {
-    let (seconds, added) = (since.elapsed().as_secs(), tally.added.iter().sum::<usize>());
+    let seconds = since.elapsed().as_secs();
+    let [added, searched, written] = [tally.added, tally.searched, tally.written].map(|numbers| numbers.iter().sum::<usize>());
     println!(
-        "outside: {} s, {} rounds, {} calls, {} events in lists, {} lists for figures{}",
-        seconds, tally.rounds, tally.calls, tally.events, added, end
+        "outside: {} s, {} rounds, {} calls, {} events in lists, {} lists for figures, {} optional parts, {} lists of parameters{}",
+        seconds, tally.rounds, tally.calls, tally.events, added, searched, written, end
     );
 }
 
@@ -131,6 +158,17 @@ fn pace(tally: &Tally, since: Instant) -> String {
 fn met(numbers: &[usize; 256]) -> String {
     let met = numbers.iter().enumerate().filter(|(_, times)| **times > 0);
     met.map(|(number, times)| format!("{} × {}", times, number)).collect::<Vec<_>>().join(", ")
+}
+
+fn say_numbers(tally: &Tally) {
+    println!(
+        "outside: answers {}; damaged tables {}; lists for figures {}; optional parts {}; lists of parameters {}",
+        met(&tally.numbers),
+        met(&tally.checked),
+        met(&tally.added),
+        met(&tally.searched),
+        met(&tally.written)
+    );
 }
 
 fn main() {
@@ -147,7 +185,7 @@ fn main() {
     paper::hold();
     let began = Instant::now();
     let mut said = began;
-    let mut tally = Tally { rounds: 0, calls: 0, events: 0, numbers: [0; 256], checked: [0; 256], added: [0; 256] };
+    let mut tally = Tally::new();
     let mut exchange = Exchange::start(&words[3..]);
     loop {
         let done = if by_time { began.elapsed() >= Duration::from_secs(count) } else { tally.rounds == count };
@@ -164,11 +202,6 @@ fn main() {
         println!("{}", difference);
         exit(1);
     }
-    println!(
-        "outside: answers {}; damaged tables {}; lists for figures {}",
-        met(&tally.numbers),
-        met(&tally.checked),
-        met(&tally.added)
-    );
+    say_numbers(&tally);
     say(&tally, began, ": no difference");
 }

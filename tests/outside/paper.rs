@@ -1,8 +1,10 @@
 // P1 to P12 and the paper's other examples, copied from document 01 by hand, the figures of its nine events, bad tables worked out by the
-// words of document 02's L2 and L4, and events by those of L4: the independent implementation is held to them first.
+// words of document 02's L2 and L4, events by those of L4, and optional parts and lists by those of L5: the independent implementation is held to
+// them first.
 
-use crate::independent::Check;
-use crate::{figures, independent};
+use crate::independent::{Check, Precedence};
+use crate::optional::{Found, Step};
+use crate::{figures, independent, optional};
 
 const SET_UP: u8 = 1;
 const RELEASE: u8 = 2;
@@ -212,6 +214,136 @@ fn hold_no_service() {
     }
 }
 
+// The optional part of an initial address message: calling party number, what to do with name 58, precedence, and the end.
+const PART: [u8; 22] =
+    [0x0a, 7, 0x84, 0x13, 0x64, 0x18, 0x32, 0x54, 0x06, 0x39, 2, 0x3a, 0xc0, 0x3a, 6, 0x43, 0x04, 0x60, 0, 0, 1, 0];
+
+// The same as a list, with both spare bits of the precedence set.
+const LIST: [u8; 24] =
+    [0x0a, 7, 0, 0x84, 0x13, 0x64, 0x18, 0x32, 0x54, 0x06, 0x39, 2, 0, 0x3a, 0xc0, 0x3a, 6, 0, 0xd3, 0x04, 0x60, 0, 0, 1];
+
+const P: [u8; 8] = [58, 6, 0x43, 0x04, 0x60, 0, 0, 1];
+
+fn search(pieces: &[&[u8]]) -> Found {
+    optional::find_precedence(&pieces.concat())
+}
+
+// Parts that are accepted without precedence, in pieces, and how many octets each has with its end.
+const WITHOUT_PRECEDENCE: &[(&[&[u8]], usize)] = &[
+    (&[&[0]], 1),
+    (&[&[0, 58, 6, 0xff]], 1),
+    (&[&[0], &P, &[0]], 1),
+    (&[&[1, 0, 0]], 3),
+    (&[&[57, 6, 0x43, 0x04, 0x60, 0, 0, 1, 0]], 9),
+    (&[&[1, 8], &P, &[0]], 11),
+    (&[&[1, 0, 1, 0, 59, 1, 58, 0]], 8),
+    (&[&[255, 255], &[0; 255], &[0]], 258),
+];
+
+// Refused parts, in pieces.
+const REFUSED_PARTS: &[(&[&[u8]], u8)] = &[
+    (&[], 62),
+    (&[&[1, 2, 0, 0]], 62),
+    (&[&[1, 0]], 62),
+    (&[&P], 62),
+    (&[&[1]], 61),
+    (&[&[58]], 61),
+    (&[&[1, 1]], 61),
+    (&[&[1, 3, 0, 0]], 61),
+    (&[&[255, 255], &[0; 254]], 61),
+    (&[&P, &P, &[0]], 63),
+    (&[&P, &[1, 0], &P, &[0]], 63),
+    (&[&[58, 0, 0]], 22),
+    (&[&[58, 5, 0x43, 0x04, 0x60, 0, 0, 0]], 22),
+    (&[&[58, 7, 0x43, 0x04, 0x60, 0, 0, 1, 0, 0]], 22),
+    (&[&[58, 6, 0x45, 0x04, 0x60, 0, 0, 1, 0]], 22),
+    (&[&[58, 6, 0x63, 0x04, 0x60, 0, 0, 1, 0]], 22),
+    (&[&[58, 6, 0x43, 0x0a, 0x60, 0, 0, 1, 0]], 22),
+    // Twice, the second malformed; the first malformed; the second cut short.
+    (&[&P, &[58, 0, 0]], 63),
+    (&[&[58, 0], &P, &[0]], 22),
+    (&[&P, &[58]], 61),
+    (&[&P, &[58, 6, 0x43]], 61),
+    // Malformed before a cut, and before there is no end; cut short itself; twice before a cut.
+    (&[&[58, 0, 1, 1]], 22),
+    (&[&[58, 0]], 22),
+    (&[&[58, 6, 0x4f, 0x04, 0x60, 0, 0]], 61),
+    (&[&P, &P, &[1]], 63),
+    (&[&P, &P], 63),
+];
+
+fn hold_parts() {
+    let value = Precedence { level: 3, lfb: 2, digits: [0, 4, 6, 0], service: 1 };
+    assert_eq!(search(&[&PART]), Found { number: 0, found: 1, start: 15, end: 22, value });
+    assert_eq!(search(&[&PART, &P, &[1]]), search(&[&PART]));
+    assert_eq!(search(&[&[58, 6, 0xd3, 0x04, 0x60, 0, 0, 1, 0]]), Found { number: 0, found: 1, start: 2, end: 9, value });
+    for length in 0..22 {
+        let number = if [0, 9, 13, 21].contains(&length) { 62 } else { 61 };
+        assert_eq!(search(&[&PART[..length]]), Found { number, ..Found::default() }, "{} octets", length);
+    }
+    for &(pieces, end) in WITHOUT_PRECEDENCE {
+        assert_eq!(search(pieces), Found { end, ..Found::default() }, "{:?}", pieces);
+    }
+    for &(pieces, number) in REFUSED_PARTS {
+        assert_eq!(search(pieces), Found { number, ..Found::default() }, "{:?}", pieces);
+    }
+}
+
+// The walk through the part, and places where it does not go.
+fn hold_steps() {
+    let parameter = |name, length, start, next| Step { number: 0, name, length, start, next };
+    let stays = |number, next| Step { number, next, ..Step::default() };
+    let wanted = [
+        (0, parameter(10, 7, 2, 9)),
+        (9, parameter(57, 2, 11, 13)),
+        (13, parameter(58, 6, 15, 21)),
+        (21, stays(0, 21)),
+        (1, stays(61, 1)),
+        (11, stays(61, 11)),
+        (18, stays(0, 18)),
+        (20, parameter(1, 0, 22, 22)),
+        (22, stays(62, 22)),
+        (23, stays(62, 23)),
+        (usize::MAX, stays(62, usize::MAX)),
+    ];
+    for (place, step) in wanted {
+        assert_eq!(optional::next_parameter(&PART, place), step, "place {}", place);
+    }
+}
+
+// Lists in pieces, each with the room that its part needs and the number that it gets there.
+const LISTS: &[(&[&[u8]], usize, u8)] = &[
+    (&[], 1, 0),
+    (&[&[1, 0, 0]], 3, 0),
+    (&[&[1, 255, 0], &[0; 255]], 258, 0),
+    (&[&[1, 0, 1], &[0; 256]], 259, 22),
+    (&[&[0, 0, 0]], 3, 22),
+    (&[&[58, 5, 0, 0x43, 0x04, 0x60, 0, 0]], 8, 22),
+    (&[&[58, 7, 0, 0x43, 0x04, 0x60, 0, 0, 1, 0]], 10, 22),
+    (&[&[58, 6, 0, 0x4f, 0x04, 0x60, 0, 0, 1]], 9, 22),
+    (&[&[58, 6, 0, 4, 0, 0, 0, 0, 0], &[58, 6, 0, 4, 0, 0, 0, 0, 0]], 17, 63),
+    (&[&[58, 6, 0, 4, 0, 0, 0, 0, 0], &[58, 0, 0]], 11, 22),
+    (&[&[58, 6, 0, 4, 0, 0, 0, 0, 0], &[58, 6, 0, 4, 0, 0, 0, 0, 0], &[0, 0, 0]], 19, 22),
+];
+
+fn hold_lists() {
+    let mut buffer = [0xee; 24];
+    assert_eq!(optional::write_optional(&mut buffer, &LIST), (0, 22));
+    assert_eq!((&buffer[..22], &buffer[22..]), (&PART[..], &[0xee; 2][..]));
+    for &(pieces, need, number) in LISTS {
+        let end = if number == 0 { need } else { 0 };
+        for (room, wanted) in [(need - 1, (20, 0)), (need, (number, end)), (need + 1, (number, end))] {
+            let mut buffer = vec![0xee; room];
+            assert_eq!(optional::write_optional(&mut buffer, &pieces.concat()), wanted, "{:?} into {}", pieces, room);
+            assert!(buffer[wanted.1..].iter().all(|&octet| octet == 0xee), "{:?} into {}", pieces, room);
+        }
+    }
+    for length in 0..24 {
+        let number = if [0, 10, 15].contains(&length) { 0 } else { 20 };
+        assert_eq!(optional::write_optional(&mut [0; 24], &LIST[..length]).0, number, "{} octets", length);
+    }
+}
+
 pub fn hold() {
     let table = &mut [0; 64];
     for (event, wanted) in listing() {
@@ -220,6 +352,9 @@ pub fn hold() {
     hold_figures();
     hold_bad_tables();
     hold_no_service();
+    hold_parts();
+    hold_steps();
+    hold_lists();
 
     for (reserved, clock, removed) in [(4294967000, 2703, 0), (4294967000, 2704, 1), (100, 99, 1)] {
         let table = &mut [0; 32];

@@ -10,6 +10,7 @@
 mod case;
 mod figures;
 mod independent;
+mod optional;
 mod random;
 mod table_file;
 mod traffic;
