@@ -12,6 +12,12 @@ use Rattle.naustvri.proofs.naustvri_read_reference.Kinds as read-refere
 use Rattle.naustvri.proofs.naustvri_read_reference.Reads as read-reference
 use Rattle.naustvri.proofs.naustvri_write_reference.Kinds as write-reference-kinds
 use Rattle.naustvri.proofs.naustvri_write_reference.Reads as write-reference
+use Rattle.naustvri.proofs.naustvri_next_parameter.Kinds as next-parameter-kinds
+use Rattle.naustvri.proofs.naustvri_next_parameter.Reads as next-parameter
+use Rattle.naustvri.proofs.naustvri_find_precedence.Kinds as find-precedence-kinds
+use Rattle.naustvri.proofs.naustvri_find_precedence.Reads as find-precedence
+use Rattle.naustvri.proofs.naustvri_write_optional.Kinds as write-optional-kinds
+use Rattle.naustvri.proofs.naustvri_write_optional.Reads as write-optional
 use Rattle.naustvri.proofs.naustvri_check.Kinds as check-kinds
 use Rattle.naustvri.proofs.naustvri_check.Reads as check
 use Rattle.naustvri.proofs.naustvri_event.Kinds as event-kinds
@@ -43,6 +49,18 @@ write-reference-result κs a x y e f p q = p .0 ∙ sym (q .0)
 
 pub write-reference-buffer : OneExit 1 write-reference-kinds.ps write-reference-kinds.r write-reference.Post (λ κs e. now (e .0))
 write-reference-buffer κs a x y e f p q = p .1 ∙ sym (q .1)
+
+pub next-parameter-result : OneResult 1 next-parameter-kinds.ps next-parameter-kinds.r next-parameter.Post
+next-parameter-result κs a x y e f p q = p ∙ sym q
+
+pub find-precedence-result : OneResult 1 find-precedence-kinds.ps find-precedence-kinds.r find-precedence.Post
+find-precedence-result κs a x y e f p q = p ∙ sym q
+
+pub write-optional-result : OneResult 2 write-optional-kinds.ps write-optional-kinds.r write-optional.Post
+write-optional-result κs a x y e f p q = p .0 ∙ sym (q .0)
+
+pub write-optional-buffer : OneExit 2 write-optional-kinds.ps write-optional-kinds.r write-optional.Post (λ κs e. now (e .0))
+write-optional-buffer κs a x y e f p q = p .1 ∙ sym (q .1)
 
 pub check-result : OneResult 1 check-kinds.ps check-kinds.r check.Post
 check-result κs a x y e f p q = p ∙ sym q

@@ -3,6 +3,9 @@ ghost use mathlib.Core.Path.{_≡_};
 ghost use Rattle.rules.specs.Records.{checked};
 ghost use Rattle.fields.specs.Precedence as precedence;
 ghost use Rattle.fields.specs.Reference as reference;
+ghost use Rattle.optional.specs.Part.{parameterAt};
+ghost use Rattle.optional.specs.Search.{find};
+ghost use Rattle.optional.specs.Write as optional;
 ghost use Rattle.lamps.specs.Lamps.{lampMap};
 ghost use Rattle.route.specs.Entries.{eventNumber, eventTable, eventAnswer, listNumber, listTable, listAnswers};
 ghost use Rattle.tally.specs.Entry.{figuresNumber, figuresTable, figuresAnswers, figuresTotals};
@@ -11,7 +14,7 @@ ghost use Rattle.naustvri.specs.Version.{version};
 // The version has these three parts, as in the header.
 const MAJOR: u32 = 2;
 
-const MINOR: u32 = 2;
+const MINOR: u32 = 3;
 
 const PATCH: u32 = 0;
 
@@ -56,6 +59,31 @@ pub extern "C" fn naustvri_write_reference(
     ensures buffer { λ _. ⌜ now (buffer .exit) ≡ reference.writeBuffer (now (buffer .entry)) value ⌝ }
 {
     fields::reference::write(buffer, value)
+}
+
+#[no_mangle]
+pub extern "C" fn naustvri_next_parameter(part: &[u8], place: usize) -> optional::part::Parameter
+    ensures reading { λ r. ⌜ r ≡ parameterAt (now (part .entry)) place ⌝ }
+{
+    optional::part::parameter_at(part, place)
+}
+
+#[no_mangle]
+pub extern "C" fn naustvri_find_precedence(part: &[u8]) -> optional::search::Found
+    ensures reading { λ r. ⌜ r ≡ find (now (part .entry)) ⌝ }
+{
+    optional::search::find(part)
+}
+
+#[no_mangle]
+pub extern "C" fn naustvri_write_optional(
+    buffer: &mut [u8],
+    list: &[u8],
+) -> optional::write::Written
+    ensures result { λ r. ⌜ r ≡ optional.write (now (buffer .entry)) (now (list .entry)) ⌝ }
+    ensures buffer { λ _. ⌜ now (buffer .exit) ≡ optional.writeBuffer (now (buffer .entry)) (now (list .entry)) ⌝ }
+{
+    optional::write::write(buffer, list)
 }
 
 #[no_mangle]

@@ -1,3 +1,14 @@
 pub mod Walk
 pub mod Lent
+pub mod Entries
+pub mod Sound
+pub mod Surveying
+pub mod Written
+pub mod Putting
+pub mod Behind
+pub mod Through
+pub mod ReadBack
+pub mod FoundBack
+pub mod Stays
 pub mod Determined
+pub mod Judged
