@@ -1,6 +1,7 @@
 /* The benchmark: calls the library and plain C on the same octets, ends with status 1 where their results differ, and sets a mark
  * before and after each counted call. For each pair of marks it writes one line, tab between: what is counted, circuits, side, the
- * number of events that the call stands for. Lines that begin with "stack" or "answers" have no marks. */
+ * number of events that the call stands for. What is over no circuits begins with the title of its table. Lines that begin with
+ * "stack" or "answers" have no marks. */
 #include <stdio.h>
 #include <stdlib.h>
 #include <string.h>
@@ -33,6 +34,16 @@ enum { SIDES = 2 };
 static uint8_t (*const add_figures[SIDES])(uint8_t *, size_t, const uint8_t *, size_t, uint8_t *, size_t, uint64_t *, size_t) = {
     naustvri_figures, plain_figures};
 static uint64_t figures[SIDES][NAUSTVRI_FIGURES];
+
+/* The functions of the optional part, apart from the others so that the code round the other calls is what it was before them. */
+static const struct {
+    struct naustvri_parameter (*next_parameter)(const uint8_t *, size_t, size_t);
+    struct naustvri_found_precedence (*find_precedence)(const uint8_t *, size_t);
+    struct naustvri_written_part (*write_optional)(uint8_t *, size_t, const uint8_t *, size_t);
+} optional_sides[SIDES] = {
+    {naustvri_next_parameter, naustvri_find_precedence, naustvri_write_optional},
+    {plain_next_parameter, plain_find_precedence, plain_write_optional},
+};
 
 #define EACH_SIDE(s) (const struct side *s = sides; s < sides + SIDES; s++)
 
@@ -160,6 +171,14 @@ static void bench_event(const char *what, const struct workload *w)
     }
 }
 
+static void precedences_must_be_equal(const struct naustvri_precedence *a, const struct naustvri_precedence *b)
+{
+    must_be_equal("level", &a->level, &b->level, sizeof a->level);
+    must_be_equal("LFB", &a->lfb, &b->lfb, sizeof a->lfb);
+    must_be_equal("digits", a->digits, b->digits, sizeof a->digits);
+    must_be_equal("service", &a->service, &b->service, sizeof a->service);
+}
+
 /* Both fields of the set-ups of a list, read, and written again. */
 static void bench_fields(const struct workload *w)
 {
@@ -174,25 +193,89 @@ static void bench_fields(const struct workload *w)
         for EACH_SIDE (s) {
             size_t k = (size_t)(s - sides);
             COUNT(precedence[k] = s->read_precedence(parameter, NAUSTVRI_PRECEDENCE_SIZE));
-            counted("read precedence", 0, s, 1);
+            counted("one field: read precedence", 0, s, 1);
             COUNT(numbers[k][0] = s->write_precedence(written[k], NAUSTVRI_PRECEDENCE_SIZE, precedence[k].value));
-            counted("write precedence", 0, s, 1);
+            counted("one field: write precedence", 0, s, 1);
             COUNT(reference[k] = s->read_reference(octets, NAUSTVRI_REFERENCE_SIZE));
-            counted("read reference", 0, s, 1);
+            counted("one field: read reference", 0, s, 1);
             COUNT(numbers[k][1] = s->write_reference(written[k] + NAUSTVRI_PRECEDENCE_SIZE, NAUSTVRI_REFERENCE_SIZE, reference[k].value));
-            counted("write reference", 0, s, 1);
+            counted("one field: write reference", 0, s, 1);
         }
         must_be_equal("the numbers of reading", (uint8_t[]){precedence[0].number, reference[0].number},
                       (uint8_t[]){precedence[1].number, reference[1].number}, 2);
         must_be_equal("the numbers of writing", numbers[0], numbers[1], sizeof numbers[0]);
-        must_be_equal("level", &precedence[0].value.level, &precedence[1].value.level, sizeof precedence[0].value.level);
-        must_be_equal("LFB", &precedence[0].value.lfb, &precedence[1].value.lfb, sizeof precedence[0].value.lfb);
-        must_be_equal("digits", precedence[0].value.digits, precedence[1].value.digits, sizeof precedence[0].value.digits);
-        must_be_equal("service", &precedence[0].value.service, &precedence[1].value.service, sizeof precedence[0].value.service);
+        precedences_must_be_equal(&precedence[0].value, &precedence[1].value);
         must_be_equal("identity", &reference[0].value.identity, &reference[1].value.identity, sizeof reference[0].value.identity);
         must_be_equal("point code", &reference[0].value.point, &reference[1].value.point, sizeof reference[0].value.point);
         must_be_equal("the octets written", written[0], written[1], sizeof written[0]);
     }
+}
+
+static void bench_find(const char *what, const struct optional *o)
+{
+    struct naustvri_found_precedence found[SIDES];
+    for EACH_SIDE (s) {
+        size_t k = (size_t)(s - sides);
+        COUNT(found[k] = optional_sides[k].find_precedence(o->part, o->part_len));
+        counted(what, 0, s, 1);
+    }
+    must_be_equal(what, &found[0].number, &found[1].number, sizeof found[0].number);
+    must_be_equal(what, &found[0].found, &found[1].found, sizeof found[0].found);
+    must_be_equal(what, &found[0].start, &found[1].start, sizeof found[0].start);
+    must_be_equal(what, &found[0].end, &found[1].end, sizeof found[0].end);
+    must_be_equal(what, &found[0].end, &o->part_len, sizeof found[0].end);
+    precedences_must_be_equal(&found[0].value, &found[1].value);
+}
+
+/* A walk from place 0 to the end of a part, each step counted by itself. */
+static void bench_walk(const char *what, const struct optional *o)
+{
+    struct naustvri_parameter steps[SIDES] = {{0}};
+    do {
+        size_t place = steps[0].next;
+        for EACH_SIDE (s) {
+            size_t k = (size_t)(s - sides);
+            COUNT(steps[k] = optional_sides[k].next_parameter(o->part, o->part_len, place));
+            counted(what, 0, s, 1);
+        }
+        must_be_equal(what, &steps[0].number, &steps[1].number, sizeof steps[0].number);
+        must_be_equal(what, &steps[0].name, &steps[1].name, sizeof steps[0].name);
+        must_be_equal(what, &steps[0].length, &steps[1].length, sizeof steps[0].length);
+        must_be_equal(what, &steps[0].start, &steps[1].start, sizeof steps[0].start);
+        must_be_equal(what, &steps[0].next, &steps[1].next, sizeof steps[0].next);
+    } while (steps[0].name != NAUSTVRI_NAME_END);
+}
+
+/* A list written into a buffer that is longer than its part. */
+static void bench_write(const char *what, const struct optional *o)
+{
+    static uint8_t buffers[SIDES][sizeof o->part];
+    struct naustvri_written_part written[SIDES];
+    memset(buffers, 255, sizeof buffers);
+    for EACH_SIDE (s) {
+        size_t k = (size_t)(s - sides);
+        COUNT(written[k] = optional_sides[k].write_optional(buffers[k], sizeof buffers[k], o->list, o->list_len));
+        counted(what, 0, s, 1);
+    }
+    must_be_equal(what, &written[0].number, &written[1].number, sizeof written[0].number);
+    must_be_equal(what, &written[0].end, &written[1].end, sizeof written[0].end);
+    must_be_equal(what, buffers[0], buffers[1], sizeof buffers[0]);
+    must_be_equal(what, buffers[0], o->part, o->part_len);
+}
+
+static struct optional handbook, behind_eight, behind_most;
+
+static void bench_optional(void)
+{
+    make_handbook_optional(&handbook);
+    make_optional(&behind_eight, 8);
+    make_optional(&behind_most, OTHERS_MOST);
+    bench_find("optional part: find precedence, the handbook's part", &handbook);
+    bench_find("optional part: find precedence, behind 8 others", &behind_eight);
+    bench_find("optional part: find precedence, behind 64 others", &behind_most);
+    bench_walk("optional part: one step of a walk, 64 others and precedence", &behind_most);
+    bench_write("optional part: write, the handbook's three parameters", &handbook);
+    bench_write("optional part: write, 64 others and precedence", &behind_most);
 }
 
 /* How often each number stands in the answers of the last list. */
@@ -206,7 +289,7 @@ static void write_answer_counts(const struct workload *w)
             printf("answers\t%s\t%zu\t%d\t%u\n", w->name, w->circuits, number, counts[number]);
 }
 
-/* The measured callers: one for each entry, over the greatest table. */
+/* The measured callers: one for each entry, over the greatest table or the longest part. */
 static const struct side *painted;
 static struct workload work, mixed;
 static volatile uint8_t number_painted;
@@ -273,6 +356,25 @@ static char *call_lamps(void)
     return STACK_POINTER();
 }
 
+static char *call_next_parameter(void)
+{
+    number_painted = optional_sides[painted - sides].next_parameter(behind_most.part, behind_most.part_len, 0).number;
+    return STACK_POINTER();
+}
+
+static char *call_find_precedence(void)
+{
+    number_painted = optional_sides[painted - sides].find_precedence(behind_most.part, behind_most.part_len).number;
+    return STACK_POINTER();
+}
+
+static char *call_write_optional(void)
+{
+    static uint8_t buffer[sizeof behind_most.part];
+    number_painted = optional_sides[painted - sides].write_optional(buffer, sizeof buffer, behind_most.list, behind_most.list_len).number;
+    return STACK_POINTER();
+}
+
 static void write_stacks(void)
 {
     static const struct {
@@ -283,7 +385,8 @@ static void write_stacks(void)
         {"read reference", call_read_reference},   {"write reference", call_write_reference},
         {"check", call_check},                     {"event", call_event},
         {"list", call_list},                       {"figures", call_figures},
-        {"lamps", call_lamps},
+        {"lamps", call_lamps},                     {"next parameter", call_next_parameter},
+        {"find precedence", call_find_precedence}, {"write optional", call_write_optional},
     };
     for EACH_SIDE (s) {
         painted = s;
@@ -327,6 +430,7 @@ int main(void)
         bench_draws("check, references drawn at random", sizes[i]);
     make_mixed(&mixed, NAUSTVRI_CIRCUITS_MOST);
     bench_fields(&mixed);
+    bench_optional();
     /* The stack is painted over the list that has events of every kind. */
     make_mixed_without_service(&mixed, NAUSTVRI_CIRCUITS_MOST);
     write_stacks();

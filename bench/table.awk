@@ -21,6 +21,24 @@ function growth(what, side,   i, out) {
     return out
 }
 
+function tenths(n,   t) {
+    t = sprintf("%.0f", 10 * n)
+    return thousands(int(t / 10)) "." t % 10
+}
+
+# A table of calls that are over no circuits: the rows that begin with its title, printed without it.
+function print_calls(title,   k, what) {
+    print "| " title " | library | plain C | library : plain C |"
+    print "|---|---|---|---|"
+    for (k = 1; k <= kinds; k++) {
+        what = order[k]
+        if (index(what, title ": ") == 1)
+            print "| " substr(what, length(title ": ") + 1) " | " tenths(cost(what, 0, "library")) " | " tenths(cost(what, 0, "plain")) " | " \
+                sprintf("%.2f", cost(what, 0, "library") / cost(what, 0, "plain")) " |"
+    }
+    print ""
+}
+
 END {
     print "| at 16 / 64 / 256 circuits | library | plain C | library : plain C | budget | library grows | plain C grows |"
     print "|---|---|---|---|---|---|---|"
@@ -31,15 +49,8 @@ END {
                 " | " growth(what, "library") " | " growth(what, "plain") " |"
     }
     print ""
-    print "| one field | library | plain C | library : plain C |"
-    print "|---|---|---|---|"
-    for (k = 1; k <= kinds; k++) {
-        what = order[k]
-        if (!sized[what])
-            printf "| %s | %.1f | %.1f | %.2f |\n", what, cost(what, 0, "library"), cost(what, 0, "plain"), \
-                cost(what, 0, "library") / cost(what, 0, "plain")
-    }
-    print ""
+    print_calls("one field")
+    print_calls("optional part")
     print "| " at_random " | least | mean | most | draws over the budget |"
     print "|---|---|---|---|---|"
     for (i = 1; i <= sizes; i++)

@@ -1,10 +1,11 @@
-/* The tables and lists of events that are counted. */
+/* The tables, lists of events and optional parts that are counted. */
 #include "workload.h"
 
 #include <string.h>
 
 #include "plain.h"
 
+static const uint64_t seed = 88172645463325252ull;
 static uint64_t state;
 
 /* A number below n, from a xorshift generator. */
@@ -110,7 +111,7 @@ static void make_list(struct workload *w, make_one *make)
 
 static void begin(struct workload *w, const char *name, size_t circuits)
 {
-    state = 88172645463325252ull;
+    state = seed;
     memset(w, 0, sizeof *w);
     w->name = name;
     w->circuits = circuits;
@@ -277,4 +278,47 @@ void make_all_parts_alike(uint8_t *table, size_t circuits)
             struct naustvri_reference reference = {.identity = four & 0xffffff, .point = (uint16_t)(four >> 24 | last << 8)};
             plain_write_reference(part_of(table, i++) + 7, NAUSTVRI_REFERENCE_SIZE, reference);
         }
+}
+
+/* Puts a parameter more into the list and into the part, which has no end octet yet. */
+static void add_parameter(struct optional *o, unsigned name, const uint8_t *contents, size_t length)
+{
+    uint8_t *listed = o->list + o->list_len, *parameter = o->part + o->part_len;
+    listed[NAUSTVRI_LISTED_NAME] = parameter[0] = (uint8_t)name;
+    listed[NAUSTVRI_LISTED_LENGTH] = parameter[1] = (uint8_t)length;
+    listed[NAUSTVRI_LISTED_LENGTH + 1] = 0;
+    memcpy(listed + NAUSTVRI_LISTED_CONTENTS, contents, length);
+    memcpy(parameter + 2, contents, length);
+    o->list_len += NAUSTVRI_LISTED_CONTENTS + length;
+    o->part_len += 2 + length;
+}
+
+static void add_end(struct optional *o) { o->part[o->part_len++] = NAUSTVRI_NAME_END; }
+
+void make_handbook_optional(struct optional *o)
+{
+    static const uint8_t calling[] = {0x84, 0x13, 0x64, 0x18, 0x32, 0x54, 0x06}, compatibility[] = {0x3a, 0xc0};
+    static const uint8_t precedence[NAUSTVRI_PRECEDENCE_SIZE] = {0x43, 0x04, 0x60, 0x00, 0x00, 0x01};
+    o->part_len = o->list_len = 0;
+    add_parameter(o, 10, calling, sizeof calling);
+    add_parameter(o, 57, compatibility, sizeof compatibility);
+    add_parameter(o, NAUSTVRI_NAME_PRECEDENCE, precedence, sizeof precedence);
+    add_end(o);
+}
+
+void make_optional(struct optional *o, size_t others)
+{
+    uint8_t precedence[NAUSTVRI_PRECEDENCE_SIZE];
+    state = seed;
+    o->part_len = o->list_len = 0;
+    for (size_t i = 0; i < others; i++) {
+        uint8_t contents[OTHER_CONTENTS_MOST];
+        unsigned name = 1 + below(NAUSTVRI_NAME_PRECEDENCE - 1), length = below(OTHER_CONTENTS_MOST + 1);
+        for (unsigned j = 0; j < length; j++)
+            contents[j] = (uint8_t)below(256);
+        add_parameter(o, name, contents, length);
+    }
+    write_parameter(precedence, NAUSTVRI_PRIORITY, 0);
+    add_parameter(o, NAUSTVRI_NAME_PRECEDENCE, precedence, sizeof precedence);
+    add_end(o);
 }

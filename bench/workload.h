@@ -1,4 +1,4 @@
-/* The tables and lists of events that are counted. The same numbers come out on every machine. */
+/* The tables, lists of events and optional parts that are counted. The same numbers come out on every machine. */
 #ifndef WORKLOAD_H
 #define WORKLOAD_H
 
@@ -36,5 +36,20 @@ void make_all_parts_drawn(uint8_t *table, size_t circuits, unsigned draw);
 
 /* The same with references that were made against the library's filter of references, so that it tells none of them apart. */
 void make_all_parts_alike(uint8_t *table, size_t circuits);
+
+enum { OTHERS_MOST = 64, OTHER_CONTENTS_MOST = 20 };
+
+/* The optional part of a message, and the list that it is written from. */
+struct optional {
+    size_t part_len, list_len;
+    uint8_t part[(OTHERS_MOST + 1) * (2 + OTHER_CONTENTS_MOST) + 1];
+    uint8_t list[(OTHERS_MOST + 1) * (NAUSTVRI_LISTED_CONTENTS + OTHER_CONTENTS_MOST)];
+};
+
+/* The part of the handbook's message: a calling party number, what to do with name 58, and precedence. */
+void make_handbook_optional(struct optional *o);
+
+/* A part whose last parameter is precedence, behind up to 64 others that have 0 to 20 octets of contents. */
+void make_optional(struct optional *o, size_t others);
 
 #endif
