@@ -21,6 +21,7 @@ docs/HANDBOOK.md                share/doc/naustvri/HANDBOOK.md     644
 CHANGELOG.md                    share/doc/naustvri/CHANGELOG.md    644
 LICENSE                         share/doc/naustvri/LICENSE         644
 examples/two_calls.c            share/doc/naustvri/two_calls.c     644
+examples/optional_part.c        share/doc/naustvri/optional_part.c 644
 END
 }
 

@@ -1,7 +1,7 @@
 #!/bin/sh
-# handbook.sh [ARCHIVE]: applies the events in docs/HANDBOOK.md and compares the answers and circuits printed there with the library's;
-# provokes every number in each way that its table of the numbers names; compiles the C that it shows; and follows its links. ARCHIVE: the library
-# where it is built already.
+# handbook.sh [ARCHIVE]: applies the events in docs/HANDBOOK.md and compares the answers and circuits printed there with the library's; reads
+# the message and writes the list that it shows; provokes every number in each way that its table of the numbers names; compiles the C that it shows;
+# and follows its links. ARCHIVE: the library where it is built already.
 . "$(dirname "$0")/../scripts/machine.sh"
 need_compiler
 archive=${1:-$(library)}
@@ -17,6 +17,13 @@ sed -E '/^    (route [0-9]|event  [0-9a-f]|answer ([0-9a-f]{2} ){15}|circuit [0-
 run_x86 "$out/replay" <"$out/printed" >"$out/given"
 diff "$out/printed" "$out/given"
 events=$(grep -c '^event' "$out/printed") || die "no event found in HANDBOOK.md"
+
+# The indented lines that message.c reads, without the words that follow after three spaces.
+build message
+sed -E '/^    (message|place|found|listed|written) [0-9a-f]/!d; s/^    //; s/   .*//' "$handbook" >"$out/shown-message"
+run_x86 "$out/message" <"$out/shown-message" >"$out/read-message"
+diff "$out/shown-message" "$out/read-message"
+[ -s "$out/shown-message" ] || die "no message found in HANDBOOK.md"
 
 # The fifth column's ways, each after the number in the second; a number that cannot be provoked has none.
 build provoke

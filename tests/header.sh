@@ -41,15 +41,16 @@ if [ "$machine" = x86_64 ]; then
     diff "$out/said-in-c" "$out/said"
 fi
 
-# The handbook's rows of the tables of numbers, causes, levels, LFB indicators and kinds, as the host prints them.
+# The handbook's rows of the tables of numbers, causes, levels, LFB indicators, kinds and names, as the host prints them.
 {
     sed -nE 's/^\| ([0-9]+) \| `([A-Z_]+)` \| ([^|]*) \|.*/\1 \2 \3/p' "$handbook" | sed -E '/ CAUSE_/!s/^/number /; / CAUSE_/s/^/cause /'
     sed -nE 's/^\| ([0-9]+) \| ([A-Z ]+) \| .*/level \1 \2/p' "$handbook"
     sed -nE 's/^.*\| 00 \| ([a-z ]+) \|$/LFB 0 \1/p; s/^.*\| 01 \| ([a-z ]+) \|$/LFB 1 \1/p; s/^.*\| 10 \| ([a-z ]+) \|$/LFB 2 \1/p' "$handbook"
     sed -n '/^| kind |/,/^$/p' "$handbook" | sed -nE 's/^\| ([0-9]) \| ([a-z -]+) \| .*/kind \1 \2/p'
+    sed -n '/^| name of a parameter |/,/^$/p' "$handbook" | sed -nE 's/^\| ([0-9]+) \| ([A-Za-z ]+) \| .*/name \1 \2/p'
 } | sort >"$out/handbook"
-# A level, an LFB indicator and a kind have no name of a constant there.
-sed -E 's/^((level|LFB|kind) [0-9]+) [A-Z_]+ /\1 /' "$out/said" | sort >"$out/header"
+# A level, an LFB indicator, a kind and a name have no name of a constant there.
+sed -E 's/^((level|LFB|kind|name) [0-9]+) [A-Z_]+ /\1 /' "$out/said" | sort >"$out/header"
 [ -s "$out/handbook" ] || die "no table found in HANDBOOK.md"
 diff "$out/handbook" "$out/header"
 echo "header: no warning by $standards standards; empty buffers as promised; $(wc -l <"$out/header") texts as in the handbook"

@@ -1,5 +1,5 @@
 #!/bin/sh
-# install.sh: what make install puts into a folder is enough for a host. The example compiles by pkg-config and prints what it should; the
+# install.sh: what make install puts into a folder is enough for a host. The examples compile by pkg-config and print what they should; the
 # man pages have no warning, and their examples are what the installed programs write; make uninstall leaves nothing behind.
 . "$(dirname "$0")/../scripts/machine.sh"
 need_compiler
@@ -26,6 +26,7 @@ cat >"$room/files" <<'END'
 ./share/doc/naustvri/CHANGELOG.md
 ./share/doc/naustvri/HANDBOOK.md
 ./share/doc/naustvri/LICENSE
+./share/doc/naustvri/optional_part.c
 ./share/doc/naustvri/two_calls.c
 ./share/man/man1/naustvri-decide.1
 ./share/man/man1/naustvri-figures.1
@@ -38,9 +39,11 @@ grep -q '^prefix=/usr$' "$stage/usr/lib/pkgconfig/naustvri.pc" || die "DESTDIR s
 export PKG_CONFIG_PATH="$host/lib/pkgconfig"
 grep -q "^## $(pkg-config --modversion naustvri)\$" "$host/share/doc/naustvri/CHANGELOG.md" || die "naustvri.pc has no version of CHANGELOG.md"
 if [ "$machine" = x86_64 ]; then static=; else static=-static; fi
-# shellcheck disable=SC2046,SC2086
-"$xcc" -O2 -Wall -Wextra $static -o "$room/two_calls" "$host/share/doc/naustvri/two_calls.c" $(pkg-config --cflags --libs naustvri)
-run_x86 "$room/two_calls" | diff "$repository/examples/two_calls.stdout" -
+for example in two_calls optional_part; do
+    # shellcheck disable=SC2046,SC2086
+    "$xcc" -O2 -Wall -Wextra $static -o "$room/$example" "$host/share/doc/naustvri/$example.c" $(pkg-config --cflags --libs naustvri)
+    run_x86 "$room/$example" | diff "$repository/examples/$example.stdout" -
+done
 
 # run_installed PROGRAM: a program as it was installed; on another machine under the toolchain's emulator.
 run_installed() { if [ "$machine" = x86_64 ]; then "$@"; else run_linked "$@"; fi; }
@@ -61,4 +64,4 @@ target uninstall PREFIX="$host"
 target uninstall PREFIX=/usr DESTDIR="$stage"
 left=$(find "$host" "$stage" -name '*naustvri*' -o ! -type d)
 [ "$left" = "$host/lib/another" ] || die "left behind, or taken away: $left"
-echo "install: $(wc -l <"$room/files") files, the example and the man pages' examples as they should be, nothing left behind"
+echo "install: $(wc -l <"$room/files") files, the examples and those of the man pages as they should be, nothing left behind"

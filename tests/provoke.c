@@ -112,6 +112,42 @@ static int great_point_code(void)
     return naustvri_write_reference(octets, sizeof octets, (struct naustvri_reference){.identity = 1, .point = 16384});
 }
 
+/* Precedence twice, each time well-formed: two parameters of a part, and of a list. */
+static const uint8_t part_twice[] = {58, 6, 3, 0, 0, 0, 0, 0, 58, 6, 3, 0, 0, 0, 0, 0, 0};
+static const uint8_t list_twice[] = {58, 6, 0, 3, 0, 0, 0, 0, 0, 58, 6, 0, 3, 0, 0, 0, 0, 0};
+
+static int find(const uint8_t *part, size_t length) { return naustvri_find_precedence(part, length).number; }
+
+static int write_list(const uint8_t *list, size_t length, size_t room)
+{
+    uint8_t buffer[64];
+    return naustvri_write_optional(buffer, room, list, length).number;
+}
+
+static int empty_part(void) { return find((const uint8_t[]){0}, 1); }
+
+static int part_cut_in_contents(void) { return find((const uint8_t[]){0x3a, 6, 0x43}, 3); }
+
+static int lone_name(void) { return find((const uint8_t[]){0x3a}, 1); }
+
+static int no_part(void) { return find(NULL, 0); }
+
+static int part_without_end(void) { return find((const uint8_t[]){1, 2, 0, 0}, 4); }
+
+static int precedence_twice(void) { return find(part_twice, sizeof part_twice); }
+
+static int five_octets(void) { return find((const uint8_t[]){58, 5, 3, 0, 0, 0, 0, 0}, 8); }
+
+static int empty_list(void) { return write_list(NULL, 0, 1); }
+
+static int no_room(void) { return write_list(NULL, 0, 0); }
+
+static int list_cut_short(void) { return write_list((const uint8_t[]){1, 0}, 2, 64); }
+
+static int name_zero(void) { return write_list((const uint8_t[]){0, 0, 0}, 3, 64); }
+
+static int listed_twice(void) { return write_list(list_twice, sizeof list_twice, 64); }
+
 static const struct {
     const char *words;
     size_t circuits;
@@ -119,6 +155,8 @@ static const struct {
     int (*other)(void); /* in place of a script */
 } ways[] = {
     {"check a table of 32 zero octets", 0, NULL, check_zeros},
+    {"find precedence in a part `00`", 0, NULL, empty_part},
+    {"write an empty list into one octet", 0, NULL, empty_list},
     {"set up a call on a free route", 1, "s41", NULL},
     {"set up a PRIORITY call on a route full of ROUTINE calls", 2, "s41 s42 s33", NULL},
     {"look ahead at PRIORITY, LFB \"allowed\", on a free route", 1, "l31", NULL},
@@ -132,8 +170,16 @@ static const struct {
     {"a table of 33 octets", 0, NULL, long_table},
     {"a list with one answer place too few", 0, NULL, short_list},
     {"figures with 94 totals", 0, NULL, one_total_too_few},
+    {"write an empty list into no octet", 0, NULL, no_room},
+    {"write a list `01 00`", 0, NULL, list_cut_short},
     {"figures of 65,537 empty lists, from zeros", 0, NULL, one_list_too_many},
     {"figures with a total of 2^64 - 4,096", 0, NULL, great_total},
+    {"find precedence in a part `3a 06 43`", 0, NULL, part_cut_in_contents},
+    {"find precedence in a part `3a`", 0, NULL, lone_name},
+    {"find precedence in no octet", 0, NULL, no_part},
+    {"find precedence in a part `01 02 00 00`", 0, NULL, part_without_end},
+    {"find precedence in a part with precedence twice", 0, NULL, precedence_twice},
+    {"write a list with precedence twice", 0, NULL, listed_twice},
     {"a set-up with level 5", 1, "s51", NULL},
     {"a set-up with LFB 11", 1, "s31@1=63", NULL},
     {"a set-up with a digit `a`", 1, "s31@2=0a", NULL},
@@ -141,6 +187,8 @@ static const struct {
     {"a no-service event with a spare bit in its parameter", 1, "s41 n1@1=80", NULL},
     {"kind 0", 1, "k@0=00", NULL},
     {"writing a point code of 16384", 0, NULL, great_point_code},
+    {"find precedence in a part whose precedence has five octets", 0, NULL, five_octets},
+    {"write a list with a name 0", 0, NULL, name_zero},
     {"set octet 0 of a circuit to 2", 1, "#0=02 k", NULL},
     {"hold a circuit, then set octet 1 of it to 15 and octet 6 to 1", 1, "s41 #1=0f #6=01 k", NULL},
     {"reserve a circuit, then set octet 13 of it to 15", 1, "l31 #13=0f k", NULL},

@@ -5,10 +5,11 @@ pub mod Sound
 pub mod Surveying
 pub mod Written
 pub mod Putting
+pub mod Judged
+pub mod Listed
 pub mod Behind
 pub mod Through
 pub mod ReadBack
 pub mod FoundBack
 pub mod Stays
 pub mod Determined
-pub mod Judged

@@ -1,10 +1,11 @@
 -- This is 02, L5: what reading and writing are to each other, and to the octets behind the end.
 use Prim.Native.Nat.{ℕ, _+_, _≤_}
 use mathlib.Core.Path.{_≡_}
-use mathlib.Core.Bool.{cond}
+use mathlib.Core.Bool.{true, cond}
 use mathlib.Core.List.{List, [], _∷_, _++_, map}
 use lib.ListN.{length, getD, take}
 use lib.Dec.{eqb}
+use Rattle.octets.specs.Number.{octets}
 use Rattle.rules.specs.Numbers.{done}
 use Rattle.fields.specs.declared.precedence.Precedence.{Precedence}
 use Rattle.fields.specs.Precedence.{readPrecedence}
@@ -12,8 +13,17 @@ use Rattle.optional.specs.declared.part.Parameter.{Parameter}
 use Rattle.optional.specs.declared.search.Found.{Found}
 use Rattle.optional.specs.Part.{isParameter, contents, walk}
 use Rattle.optional.specs.Search.{noValue, find}
-use Rattle.optional.specs.List.{Item, items}
+use Rattle.optional.specs.List.{Item, items, whole}
 use Rattle.optional.specs.Write.{isPrecedence, plain, room, precedences, write, writeBuffer}
+
+-- a parameter list as it is lent
+abbrev pub lent : List Item → List ℕ
+lent [] = []
+lent (i ∷ is) = i .name ∷ (octets 2 (length (i .contents)) ++ (i .contents ++ lent is))
+
+-- every parameter list can be lent, in octets where no contents have more than 65,535: its parameters are read from them, and none is cut short
+abbrev pub Lent : Type 0
+Lent = (is : List Item) → (whole (lent is) ≡ true) × (items (lent is) ≡ is)
 
 -- the parameters that a walk through s meets, names and contents as they stand
 abbrev pub listed : List ℕ → List Parameter → List Item

@@ -1,5 +1,6 @@
 // These rows ask, and leave the scene as it is.
 use crate::field;
+use crate::part;
 use crate::scene::Scene;
 use crate::scene::TABLE;
 use crate::script;
@@ -85,6 +86,10 @@ fn answer(scene: Scene, letter: u8, row: &[u8], given: &[u8], t: &[u8])
         b'P' => field::precedence(given),
         b'R' => field::reference(given),
         b'Q' | b'S' => field::written(letter, row),
+        b'F' => part::found(given),
+        b'D' => part::step(given),
+        b'I' => part::written(given),
+        b'L' => part::long(given),
         b'V' => checked(t),
         b'G' => chosen(row, t),
         b'W' => stands(row, t),

@@ -7,14 +7,19 @@ use fields::reference::Reference;
 ghost use Prim.Native.Nat.{_≤_};
 ghost use lib.ListN.{length};
 
-// Reads a parameter of the row's octets: number; LFB, level and digits; service domain.
+// Writes the values of precedence: LFB, level and digits; service domain.
+pub fn values(value: Precedence) {
+    let digits = value.digits;
+    text::barred(&[value.lfb, value.level], 0, 2);
+    text::octets(&digits, 0, 4);
+    text::number(value.service as u64);
+}
+
+// Reads a parameter of the row's octets: number; its values.
 pub fn precedence(octets: &[u8]) {
     let r = fields::precedence::read(octets);
-    let digits = r.value.digits;
     text::number(r.number as u64);
-    text::barred(&[r.value.lfb, r.value.level], 0, 2);
-    text::octets(&digits, 0, 4);
-    text::number(r.value.service as u64);
+    values(r.value);
 }
 
 // Reads a reference of the row's octets: number, identity, point code.

@@ -24,6 +24,13 @@ pub fn first(s: &[u8], n: usize) -> &[u8] {
     &s[0..m]
 }
 
+// Gives the octets after the first one.
+pub fn rest(s: &[u8]) -> &[u8] {
+    let from = within(1, s.len());
+    let end = s.len();
+    &s[from..end]
+}
+
 // Gives room for n octets, or for all where there are fewer.
 pub fn room(s: &mut [u8], n: usize) -> &mut [u8] {
     let m = within(n, s.len());
