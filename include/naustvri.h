@@ -40,8 +40,8 @@ extern "C" {
  * the end, the functions that give a value's name and meaning. A host may go through them too, by two macros of its own: `first` takes
  * the first row and `next` every other. */
 
-/* The numbers given back, in the order in which refusals are tried. At 20 and 60 nothing is written. 61 to 63 are of the optional part alone; its
- * writer tries 63 after 22. 41 to 45 say why a table is not valid, and come with the record that is bad. */
+/* The numbers given back, in the order in which refusals are tried. At 20 and 60 nothing is written. 61 to 63 are of the optional part alone, where
+ * the place decides before the number; its writer tries 63 after 22. 41 to 45 say why a table is not valid, and come with the record that is bad. */
 #define NAUSTVRI_NUMBERS(first, next) \
     first(NAUSTVRI_DONE, 0, "list carried out, table valid, or field or optional part read or written") \
     next(NAUSTVRI_SEIZED, 1, "the call holds the circuit, nobody lost one") \
@@ -108,7 +108,8 @@ extern "C" {
     next(NAUSTVRI_CLOCK, 5, "clock") \
     next(NAUSTVRI_NO_SERVICE, 6, "no-service")
 
-/* The names of parameters that the library knows: name 0 ends an optional part. It passes over any other. */
+/* The names of parameters that the library knows. Name 0 ends an optional part. Any other name is passed over in a part that is read, and written as
+ * it stands in a list. */
 #define NAUSTVRI_NAMES(first, next) \
     first(NAUSTVRI_NAME_END, 0, "end of optional parameters") \
     next(NAUSTVRI_NAME_PRECEDENCE, 58, "MLPP precedence")
@@ -229,11 +230,11 @@ struct naustvri_parameter {
     uint8_t number;     /* 0, 61 or 62 */
     uint8_t name;       /* 0 at the end and at a refusal */
     uint8_t length;     /* how many octets of contents */
-    size_t start;       /* the place of the first of them */
+    size_t start;       /* the place where they start, with none too */
     size_t next;        /* the place of the next name */
 };
 
-/* Precedence in an optional part. At a refusal every value is zero. */
+/* Precedence in an optional part. At a refusal every value is zero. Look at number and found before value: a level of 0 is FLASH OVERRIDE. */
 struct naustvri_found_precedence {
     uint8_t number;     /* 0, 61, 62, 63 or 22 */
     uint8_t found;      /* 1 where there is precedence, else 0 */
@@ -267,24 +268,32 @@ struct naustvri_reference_reading naustvri_read_reference(const uint8_t *octets,
 uint8_t naustvri_write_reference(uint8_t *buffer, size_t buffer_len, struct naustvri_reference value);
 
 /* The optional part of a message: each parameter is a name octet, a length octet and as many octets of contents, and the first name 0 ends the
- * part. Octets behind it are neither read nor refused.
+ * part. Octets behind it are neither read nor refused. A message whose pointer to the optional part is 0 has none: do not call, since an empty part
+ * is refused by 62.
  *
- * naustvri_next_parameter is one step: what stands at a place of the part, for a walk from place 0 by `next`. Number 0 with a name that is not 0: a
- * parameter. 0 with name 0: the end, where the walk is over. 61: the part is cut short inside a parameter. 62: no octet is left where a name should
- * stand, so at any place from part_len on. At the end and at a refusal `next` is the same place again. It looks at one parameter, so it gives no 63
- * and no 22, and the contents are the sender's octets, spare bits and all. */
+ * naustvri_next_parameter is one step: what stands at a place of the part. Number 0 with a name that is not 0: a parameter. 0 with name 0: the end.
+ * 61: the part is cut short inside a parameter. 62: no octet is left where a name should stand, so at any place from part_len on. At the end and at a
+ * refusal `next` is the same place again. It looks at one parameter, so it gives no 63 and no 22, and the contents are the sender's octets, spare
+ * bits and all. A walk:
+ *
+ *   struct naustvri_parameter p = naustvri_next_parameter(part, part_len, 0);
+ *   for (; p.number == 0 && p.name != 0; p = naustvri_next_parameter(part, part_len, p.next))
+ *       use(p.name, part + p.start, p.length);
+ */
 struct naustvri_parameter naustvri_next_parameter(const uint8_t *part, size_t part_len, size_t place);
 
 /* MLPP precedence (name 58) in an optional part, which is gone through from place 0 to its end or to its first fault; other names are passed over,
  * whatever they hold. 0: the part is whole, and `found` says whether it has precedence. 61 and 62: as above. 63: precedence a second time. 22:
- * precedence that is not six well-formed octets, its length too. The first parameter with a fault decides, at one parameter in the order 61, 63,
- * 22. At a refusal every value is zero. */
+ * precedence that is not six well-formed octets; a wrong length is 22 too. The first parameter with a fault decides, at one parameter in the order
+ * 61, 63, 22. At a refusal every value is zero. */
 struct naustvri_found_precedence naustvri_find_precedence(const uint8_t *part, size_t part_len);
 
 /* An optional part from a list of parameters: 0, with the parameters written in their order, each by name, length and contents, precedence with its
  * spare bits 0, then one octet 0 as the end; octets of the buffer behind it stay. 20: the buffer has too little room, that is 2 octets a parameter,
  * its contents, and 1 for the end; or the lent list is cut short inside a parameter. Then 22: a name 0, contents of more than 255 octets, or
- * precedence that is not six well-formed octets. Then 63: precedence twice. At a refusal the buffer is as it was.
+ * precedence that is not six well-formed octets. Then 63: precedence twice. Each is looked for in the whole list before the next, so precedence
+ * twice, the second malformed, is 22 here, and 63 where it is read. At a refusal the buffer is as it was. A buffer of list_len + 1 octets has room for
+ * every list: 20 is then a list that is cut short.
  *
  * The list is lent as octets, parameter after parameter: its name, how many octets of contents in two octets, the low one first, and the
  * contents. It has no end octet. An empty list gives a part of one octet 0. */

@@ -1,5 +1,5 @@
 #!/bin/sh
-# run.sh                        the outside tests of the gate: the example, the header, the version, the handbook, the Rust package, the
+# run.sh                        the outside tests of the gate: the examples, the header, the version, the handbook, the Rust package, the
 #                               programs, what is installed, then the library against the independent implementation, always the same cases
 # run.sh seconds COUNT [SEED]   other cases for so many seconds, every ten seconds a line with how many a second, and the seed of any difference
 # run.sh rounds COUNT SEED      so many rounds from a seed; one round where a difference is to come again

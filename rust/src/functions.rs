@@ -40,7 +40,8 @@ pub fn write_reference(buffer: &mut [u8], value: Reference) -> u8 {
 
 /// One step through the optional part of a message: what stands at a place of it, for a walk from place 0 by `next`, as
 /// [`parameters`](crate::parameters) goes. Each parameter is a name octet, a length octet and as many octets of contents, and the first name 0 ends
-/// the part; octets behind it are neither read nor refused.
+/// the part; octets behind it are neither read nor refused. A message whose pointer to the optional part is 0 has none: do not call, since an empty
+/// part is refused by 62.
 ///
 /// Number 0 with a name that is not 0: a parameter. 0 with name 0: the end, where the walk is over. 61: the part is cut short inside a parameter.
 /// 62: no octet is left where a name should stand, so at any place from `part.len()` on. At the end and at a refusal `next` is the same place again.
@@ -51,8 +52,8 @@ pub fn next_parameter(part: &[u8], place: usize) -> ParameterReading {
 
 /// MLPP precedence ([`NAME_PRECEDENCE`](crate::NAME_PRECEDENCE)) in an optional part, which is gone through from place 0 to its end or to its first
 /// fault; other names are passed over, whatever they hold. 0: the part is whole, and `found` says whether it has precedence. 61 and 62: as
-/// [`next_parameter`] gives them. 63: precedence a second time. 22: precedence that is not six well-formed octets, its length too. The first
-/// parameter with a fault decides, at one parameter in the order 61, 63, 22. At a refusal every value is zero.
+/// [`next_parameter`] gives them. 63: precedence a second time. 22: precedence that is not six well-formed octets; a wrong length is 22
+/// too. The first parameter with a fault decides, at one parameter in the order 61, 63, 22. At a refusal every value is zero.
 pub fn find_precedence(part: &[u8]) -> FoundPrecedence {
     unsafe { raw::naustvri_find_precedence(part.as_ptr(), part.len()) }
 }
@@ -60,7 +61,9 @@ pub fn find_precedence(part: &[u8]) -> FoundPrecedence {
 /// An optional part from a list of parameters: 0, with the parameters written in their order, each by name, length and contents, precedence with its
 /// spare bits 0, then one octet 0 as the end; octets of the buffer behind it stay. 20: the buffer has too little room, that is 2 octets a parameter,
 /// its contents, and 1 for the end; or the lent list is cut short inside a parameter. Then 22: a name 0, contents of more than 255 octets, or
-/// precedence that is not six well-formed octets. Then 63: precedence twice. At a refusal the buffer is as it was.
+/// precedence that is not six well-formed octets. Then 63: precedence twice. Each is looked for in the whole list before the next, so precedence
+/// twice, the second malformed, is 22 here, and 63 where it is read. At a refusal the buffer is as it was. A buffer of one octet more than the list has
+/// room for every list: 20 is then a list that is cut short.
 ///
 /// The list is lent as octets, parameter after parameter: its name, how many octets of contents in two octets, the low one first, and the contents.
 /// It has no end octet. An empty list gives a part of one octet 0. [`push_parameter`](crate::push_parameter) puts a parameter into a list.

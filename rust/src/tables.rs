@@ -29,8 +29,8 @@ macro_rules! table {
     };
 }
 
-// The numbers given back, in the order in which refusals are tried. At 20 and 60 nothing is written. 61 to 63 are of the optional part alone; its
-// writer tries 63 after 22. 41 to 45 say why a table is not valid, and come with the record that is bad.
+// The numbers given back, in the order in which refusals are tried. At 20 and 60 nothing is written. 61 to 63 are of the optional part alone, where
+// the place decides before the number; its writer tries 63 after 22. 41 to 45 say why a table is not valid, and come with the record that is bad.
 table! {
     "number", number_name, number_meaning;
     DONE = 0, "list carried out, table valid, or field or optional part read or written";
@@ -106,7 +106,8 @@ table! {
     NO_SERVICE = 6, "no-service";
 }
 
-// The names of parameters that the library knows: name 0 ends an optional part. It passes over any other.
+// The names of parameters that the library knows. Name 0 ends an optional part. Any other name is passed over in a part that is read, and written as
+// it stands in a list.
 table! {
     "name", name_name, name_meaning;
     NAME_END = 0, "end of optional parameters";

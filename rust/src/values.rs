@@ -66,7 +66,8 @@ pub struct ParameterReading {
     pub next: usize,
 }
 
-/// What [`find_precedence`](crate::find_precedence) gives. At a refusal every value is zero.
+/// What [`find_precedence`](crate::find_precedence) gives. At a refusal every value is zero. Look at `number` and `found` before `value`: a level of 0
+/// is FLASH OVERRIDE.
 #[repr(C)]
 #[derive(Clone, Copy, Debug, PartialEq, Eq)]
 #[must_use]

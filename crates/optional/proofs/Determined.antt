@@ -1,4 +1,5 @@
--- Of each entry with plain parameters any two results that its contract allows coincide. The reader's own methods have no plain reading (`Reads`): their contracts are equations all the same.
+-- For each entry any two results that its contract allows coincide, and so does what they leave in the buffer. The reader's own functions have no plain
+-- reading (`Reads`) that could be named here; their contracts are equations all the same.
 use mathlib.Core.Path.{sym, _∙_}
 use denote.Ref.{now}
 use Rattle.octets.proofs.Determined.{OneResult, OneExit}

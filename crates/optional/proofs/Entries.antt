@@ -8,9 +8,9 @@ use lib.ListN.{length, getD, take, drop, length-drop}
 use lib.Seq.{length-take-le}
 use lib.Dec.{eqb, ltb}
 use borrow.Author.Tests.{eq-eqb, ne-eqb, lt-ltb, le-ltb, ltb-true, ltb-false}
-use Rattle.octets.proofs.Tests.{by-test}
+use Rattle.octets.proofs.Tests.{by-so, by-test}
 use Rattle.optional.specs.declared.list.Entry.{Entry}
-use Rattle.optional.specs.List.{Item, countAt, behind, itemAt, itemsFrom, wholeFrom, cut, entryAt}
+use Rattle.optional.specs.List.{countAt, behind, itemAt, itemsFrom, wholeFrom, cut, entryAt}
 use Rattle.optional.specs.Survey.{itemOf}
 
 -- the contents of a parameter that lies within the list are as many as lie between its two places
@@ -71,3 +71,7 @@ module _ (l : List ℕ) (at : ℕ) where
 
   pub whole-past : (m : ℕ) → length l < at → wholeFrom m l at ≡ false
   whole-past m f = whole-last m (omega (arith, f)) ∙ ne-eqb at (length l) (λ e. omega (arith, e, f))
+
+  pub whole-within : (m : ℕ) → wholeFrom m l at ≡ true → at ≤ length l
+  whole-within m w =
+      by-so (ltb (length l) at) (λ t. absurd (true≢false (sym w ∙ whole-past m (ltb-true (length l) at t)))) (λ t. ltb-false (length l) at t)

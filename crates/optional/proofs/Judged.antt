@@ -1,7 +1,7 @@
 -- What the first pass found decides as the definition of the writer does.
 use Prim.Native.Nat.{ℕ}
-use mathlib.Core.Path.{_≡_, refl, sym, ap, _∙_}
-use mathlib.Core.Bool.{Bool, true, false, cond}
+use mathlib.Core.Path.{_≡_, refl, sym, _∙_}
+use mathlib.Core.Bool.{Bool, true, false}
 use mathlib.Core.List.{List}
 use lib.ListN.{length}
 use lib.Dec.{leb}
@@ -16,7 +16,7 @@ use Rattle.optional.proofs.Written.{tested, either}
 
 module _ (b l : List ℕ) where
   -- the number, by the four tests
-  number-is : write b l .number ≡ tested (whole l) (leb (room (items l)) (length b)) (allSound (items l)) (leb (precedences (items l)) 1) 0 (λ k. k)
+  pub number-is : write b l .number ≡ tested (whole l) (leb (room (items l)) (length b)) (allSound (items l)) (leb (precedences (items l)) 1) 0 (λ k. k)
   unfolding write
   number-is = go (whole l) (leb (room (items l)) (length b)) (allSound (items l)) (leb (precedences (items l)) 1)
     where

@@ -1,5 +1,5 @@
 pub mod Walk
-pub mod Lent
+pub mod Tokens
 pub mod Entries
 pub mod Sound
 pub mod Surveying
@@ -12,4 +12,5 @@ pub mod Through
 pub mod ReadBack
 pub mod FoundBack
 pub mod Stays
+pub mod RoomEnough
 pub mod Determined

@@ -1,22 +1,20 @@
 -- Where the second pass stands: what was written so far, and what the rest of the list adds to it.
 use Prim.Native.Nat.{ℕ, zero, suc, pred, _+_, _-_, _≤_, _<_}
 use mathlib.Core.Path.{_≡_, refl, sym, ap, ap₂, subst, _∙_}
-use mathlib.Core.Bool.{true, true≢false}
+use mathlib.Core.Bool.{true}
 use mathlib.Core.List.{List, [], _∷_, _++_, append-assoc}
 use native.Mathlib.Nat.{zero-add, add-zero}
 use native.Mathlib.Omega.{arith}
 use lib.ListN.{length, set, length-append}
-use lib.Dec.{ltb}
-use borrow.Author.Tests.{ltb-true, ltb-false}
 use Rattle.octets.specs.Span.{put}
-use Rattle.octets.proofs.Tests.{by-so, if-ge, and-left, and-right}
+use Rattle.octets.proofs.Tests.{if-ge, and-left, and-right}
 use Rattle.octets.proofs.Spans.{length-put, put-put}
 use Rattle.optional.specs.declared.list.Entry.{Entry}
 use Rattle.optional.specs.List.{Item, behind, itemAt, itemsFrom, items, wholeFrom, whole, entryAt}
 use Rattle.optional.specs.Write.{octetsOf, partOf, sound, allSound}
 use Rattle.optional.specs.Survey.{itemOf, Writable}
 use Rattle.optional.proofs.Written.{plain-length, part-room, more-room}
-use Rattle.optional.proofs.Entries.{counted, Stood, same-item, item-first, whole-first, item-none, whole-past}
+use Rattle.optional.proofs.Entries.{counted, Stood, same-item, item-first, whole-first, item-none, whole-within}
 
 module _ (b l : List ℕ) where
   -- m parameters more are allowed, which is enough; v was written in front of b
@@ -50,10 +48,7 @@ module _ (b l : List ℕ) where
     further = sym (whole-first l at f m) ∙ st .is-whole
 
     ends-within : behind l at ≤ length l
-    ends-within =
-        by-so (ltb (length l) (behind l at))
-        (λ t. absurd (true≢false (sym further ∙ whole-past l (behind l at) m (ltb-true (length l) (behind l at) t))))
-        (λ t. ltb-false (length l) (behind l at) t)
+    ends-within = whole-within l (behind l at) m further
 
     stood : entryAt l at ≡ Stood l at
     unfolding entryAt

@@ -1,7 +1,7 @@
 -- What is known of a parameter that may be written.
-use Prim.Native.Nat.{ℕ, _+_, _-_, _≤_, _<_}
+use Prim.Native.Nat.{ℕ, _+_, _-_, _≤_}
 use mathlib.Core.Path.{_≡_, refl, sym, ap, _∙_}
-use mathlib.Core.Bool.{Bool, true, false, cond, _||_, not}
+use mathlib.Core.Bool.{Bool, true, cond, _||_, not}
 use mathlib.Core.List.{List, _∷_}
 use native.Mathlib.Numerals.{add-one}
 use native.Mathlib.Omega.{arith}
@@ -14,7 +14,7 @@ use Rattle.rules.specs.Fields.{levelIn, lfbIn}
 use Rattle.fields.specs.Precedence.{firstOctet, spareless, refused, readPrecedence}
 use Rattle.optional.specs.declared.list.Entry.{Entry}
 use Rattle.optional.specs.List.{Item}
-use Rattle.optional.specs.Write.{isPrecedence, octetsOf, sound}
+use Rattle.optional.specs.Write.{octetsOf, sound}
 use Rattle.optional.specs.Survey.{itemOf}
 
 -- precedence that can be read has six octets

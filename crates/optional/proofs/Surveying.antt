@@ -1,17 +1,16 @@
 -- Where the first pass stands: what was found so far, and what the rest of the list adds to it.
-use Prim.Native.Nat.{ℕ, zero, suc, pred, _+_, _-_, _≤_, _<_}
-use mathlib.Core.Path.{_≡_, refl, sym, ap, ap₂, subst, _∙_}
+use Prim.Native.Nat.{ℕ, zero, suc, pred, _+_, _≤_, _<_}
+use mathlib.Core.Path.{_≡_, refl, sym, ap, subst, _∙_}
 use mathlib.Core.Bool.{Bool, true, false, cond, _&&_, and-true, true≢false}
 use mathlib.Core.List.{List, [], _∷_}
 use native.Mathlib.Omega.{arith}
 use lib.ListN.{length, getD}
 use lib.Dec.{eqb}
 use Rattle.octets.proofs.Tests.{by-test, and-assoc}
-use Rattle.optional.specs.declared.list.Entry.{Entry}
 use Rattle.optional.specs.declared.survey.Survey.{Survey}
-use Rattle.optional.specs.List.{Item, countAt, behind, itemAt, itemsFrom, items, wholeFrom, whole, cut, entryAt}
+use Rattle.optional.specs.List.{Item, behind, itemAt, itemsFrom, items, wholeFrom, whole, cut}
 use Rattle.optional.specs.Write.{room, sound, allSound, precedences}
-use Rattle.optional.specs.Survey.{itemOf, once, cutShort, further, surveyed, Bounded, Surveyed}
+use Rattle.optional.specs.Survey.{once, cutShort, further, surveyed, Bounded, Surveyed}
 use Rattle.optional.proofs.Entries.{Stood, cases, same-item, item-length, item-first, whole-first, item-none, whole-end, whole-past}
 
 at-most-once : (name : ℕ) → once name ≤ 1

@@ -8,17 +8,17 @@ use native.Mathlib.Omega.{arith}
 use lib.ListN.{length, getD}
 use lib.Dec.{eqb, leb, ltb}
 use borrow.Author.Tests.{leb-true, leb-false, ltb-false, eqb-true, eqb-false}
-use Rattle.octets.proofs.Tests.{by-test, by-so, and-left, and-right}
+use Rattle.octets.proofs.Tests.{by-test, by-so}
 use Rattle.optional.specs.declared.part.Parameter.{Parameter}
 use Rattle.optional.specs.declared.search.Search.{Search}
-use Rattle.optional.specs.Part.{stopped, parameterAt, isParameter, steps, walk}
+use Rattle.optional.specs.Part.{stopped, standing, parameterAt, isParameter, steps, walk}
 use Rattle.optional.specs.Search.{Within, begun, refused, ended, noted, judged, find}
 
 module _ (s : List ℕ) where
   -- what holds of the four ways to stop and of a whole parameter holds of what stands at a place
   pub cases : (P : Parameter → Type 0) (at : ℕ)
       → (length s ≤ at → P (stopped 62 at)) → (at < length s → getD s at 0 ≡ 0 → P (stopped 0 at)) → P (stopped 61 at)
-      → (at < length s → (getD s at 0 ≡ 0 → ⊥) → at + 2 + getD s (at + 1) 0 ≤ length s → P (record { number = 0; name = getD s at 0; length = getD s (at + 1) 0; start = at + 2; next = at + 2 + getD s (at + 1) 0 }))
+      → (at < length s → (getD s at 0 ≡ 0 → ⊥) → at + 2 + getD s (at + 1) 0 ≤ length s → P (standing (getD s at 0) (getD s (at + 1) 0) at))
       → P (parameterAt s at)
   unfolding parameterAt
   cases P at none end cut whole =
@@ -62,7 +62,8 @@ module _ (s : List ℕ) where
   closed h (p ∷ ps) f = ap (λ (b : Bool). cond b (judged s (noted s h p) ps) h) f
 
   -- one turn
-  pub turn : (h : Search) (m at : ℕ) → h .going ≡ true → 0 < m → judged s h (steps m s at) ≡ judged s (noted s h (parameterAt s at)) (steps (pred m) s (parameterAt s at .next))
+  pub turn : (h : Search) (m at : ℕ) → h .going ≡ true → 0 < m
+      → judged s h (steps m s at) ≡ judged s (noted s h (parameterAt s at)) (steps (pred m) s (parameterAt s at .next))
   turn h zero at g l = absurd (omega arith)
   turn h (suc m) at g l =
       let p = parameterAt s at in
@@ -88,10 +89,16 @@ module _ (s : List ℕ) where
   fewer m l = let k = sub-one m in omega arith
 
   pub goes-on : (m at : ℕ) (h : Search) → Stands m at h → h .going ≡ true → Stands (pred m) (parameterAt s at .next) (noted s h (parameterAt s at))
-  goes-on m at h st g = record {
-    rest = st .rest ∙ turn h m at g (left m at h st g);
-    enough = λ g′. by-so (isParameter (parameterAt s at)) (λ t. let o = onward at t in let e = st .enough g in let k = sub-one m in let l = left m at h st g in (o .1, omega arith)) (λ f. absurd (true≢false (sym g′ ∙ closes h (parameterAt s at) f)));
-  }
+  goes-on m at h st g =
+      let p = parameterAt s at in
+      let l = left m at h st g in
+      let e = st .enough g in
+      let k = sub-one m in
+      record {
+        rest = st .rest ∙ turn h m at g l;
+        enough = λ g′.
+            by-so (isParameter p) (λ t. let o = onward at t in (o .1, omega arith)) (λ f. absurd (true≢false (sym g′ ∙ closes h p f)));
+      }
 
   pub ends : (m at : ℕ) (h : Search) → Stands m at h → h .going ≡ false → h .result ≡ find s
   unfolding find

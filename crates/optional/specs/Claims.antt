@@ -1,16 +1,14 @@
 -- This is 02, L5: what reading and writing are to each other, and to the octets behind the end.
-use Prim.Native.Nat.{ℕ, _+_, _≤_}
+use Prim.Native.Nat.{ℕ, _+_, _≤_, _<_}
 use mathlib.Core.Path.{_≡_}
-use mathlib.Core.Bool.{true, cond}
+use mathlib.Core.Bool.{true, false, cond}
 use mathlib.Core.List.{List, [], _∷_, _++_, map}
 use lib.ListN.{length, getD, take}
-use lib.Dec.{eqb}
 use Rattle.octets.specs.Number.{octets}
-use Rattle.rules.specs.Numbers.{done}
+use Rattle.rules.specs.Numbers.{done, wrongLength}
 use Rattle.fields.specs.declared.precedence.Precedence.{Precedence}
 use Rattle.fields.specs.Precedence.{readPrecedence}
 use Rattle.optional.specs.declared.part.Parameter.{Parameter}
-use Rattle.optional.specs.declared.search.Found.{Found}
 use Rattle.optional.specs.Part.{isParameter, contents, walk}
 use Rattle.optional.specs.Search.{noValue, find}
 use Rattle.optional.specs.List.{Item, items, whole}
@@ -60,3 +58,7 @@ Behind = (s t : List ℕ) → find s .number ≡ done → find (take (find s .en
 -- "and leaves the buffer; when it writes, octets behind the end stay": of a refusal the end is 0
 abbrev pub Stays : Type 0
 Stays = (b l : List ℕ) → (length (writeBuffer b l) ≡ length b) × ((i : ℕ) → write b l .end ≤ i → getD (writeBuffer b l) i 0 ≡ getD b i 0)
+
+-- "20 for too little room": a buffer of one octet more than the list has room for it, so that 20 is then a list that is cut short
+abbrev pub RoomEnough : Type 0
+RoomEnough = (b l : List ℕ) → length l < length b → write b l .number ≡ wrongLength → whole l ≡ false

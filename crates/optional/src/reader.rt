@@ -20,7 +20,8 @@ impl<'a> Reader<'a> {
 
     // Gives what stands at the reader's place, and moves it on to the next name.
     pub fn step<'s>(&'s mut self) -> Parameter
-        ensures { λ p. ⌜ (p ≡ parameterAt (now (now (self .entry) .part)) (now (self .entry) .place)) × (now (self .exit) ≡ moved (now (self .entry)) (p .next)) ⌝ }
+        ensures { λ p. ⌜ (p ≡ parameterAt (now (now (self .entry) .part)) (now (self .entry) .place))
+            × (now (self .exit) ≡ moved (now (self .entry)) (p .next)) ⌝ }
     {
         let p = part::parameter_at(self.part, self.place);
         self.place = p.next;

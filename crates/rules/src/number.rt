@@ -1,7 +1,7 @@
 // These are the numbers given back: first those of what is accepted, then the refusals in the order in which they are tried. The writer of an
 // optional part alone tries 63 after 22.
 
-// The list was carried out, the table is valid, or the field was read or written.
+// The list was carried out, the table is valid, or the field or optional part was read or written.
 pub const DONE: u8 = 0;
 
 pub const SEIZED: u8 = 1;

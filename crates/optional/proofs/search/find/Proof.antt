@@ -1,7 +1,7 @@
--- A walk of the MIR by hand, with a loop. A reader stands in a local; each turn lends it by `&mut` to `step`, for a lifetime made for the call, takes it back at its next place,
--- and hands what `step` gave to `noted`. The invariant is `Stands` (Walk.antt), and the number of steps that are allowed still falls.
--- All that is known of the four functions that are called is their contracts.
-use mathlib.Core.Path.{_≡_, refl, sym, ap, subst, _∙_}
+-- A walk of the code by hand, with a loop. A reader stands in a local; each turn lends it by `&mut` to `step`, for a lifetime made for the call, takes it
+-- back at its next place, and hands what `step` gave to `noted`. The invariant is `Stands` (Walk), and the number of steps that are allowed still
+-- falls. All that is known of the four functions that are called is their contracts.
+use mathlib.Core.Path.{_≡_, refl, sym, ap, subst}
 use Prim.Native.Nat.{ℕ, suc, pred, _<_}
 use mathlib.Core.Bool.{Bool, true, false, not}
 use mathlib.Core.List.{List, [], _∷_}
@@ -19,11 +19,10 @@ use prog.Memory.{Memory}
 use prog.Routine.{Routine}
 use prog.Wp.{Heap, Out, Env, afterSeq, afterBlock, afterTurn, Calls, Loops, Wp, atReturn, WpFn, Tables}
 use ghost.Atoms.{Atoms, sem}
-use contract.Lifetimes.{AllOutlive}
 use contract.BorrowLft.{meet-⊑-right}
 use contract.Monad.{Fun, fact}
 use contract.Running.{givenOf, tables, tablesOf}
-use types.Kit.{put, Given, Item, ‵, raw, _⊛_, given, ⋆, some, later, runs, anyQ, atRet, Sq, _$_, _∵_, !, qed, by, move, keep, drop, use0, use1, use2, use3, split, split3, join, learn, pick, rewrite, fsplit, fjoin, fjoin3, fpick, fpack, feqI, suffices, frame, await, done}
+use types.Kit.{put, Given, Item, ‵, raw, _⊛_, ⋆, some, later, runs, anyQ, atRet, Sq, _$_, _∵_, !, qed, by, move, keep, drop, use0, use1, use2, use3, split, split3, join, pick, rewrite, fsplit, fjoin, fpick, fpack, suffices, frame, await, done}
 use types.Part.{whole, sub, look-in}
 use types.Run.{look, store, init, forget, stop, fld, from, load, addr, of-opd, and-then, no-more, assigns, first, skips, jumps, blocks, branches, land, land-last, returns, enter, alloc1, alloc0, params1, pass1, pass0, free1, free0, exec, Below, again, loops}
 use types.SemTy.{Body}
@@ -35,7 +34,7 @@ use denote.Lend.{lends-ref, ref-back}
 use denote.Memory.{mem, cellAt, partOf}
 use denote.Builtin.{u8}
 use denote.Ref.{RefT, NamedLft, MutRef, now}
-use denote.Signature.{plain, namedLft}
+use denote.Signature.{plain}
 use denote.Slice.{sliceVal, ShrSlice, slice-vals, shr-slice-tells, shr-slice-lawful, shr-slice-copy}
 use denote.Steps.{only, owned, peeks, heard, nothing}
 use denote.Struct.Declared.{Declared}
@@ -56,7 +55,7 @@ use Rattle.optional.specs.declared.part.Parameter.{Parameter}
 use Rattle.optional.specs.declared.search.Search.{Search}
 use Rattle.optional.specs.declared.search.Found.{Found}
 use Rattle.optional.proofs.Walk.{Stands, within, begins, left, fewer, goes-on, ends}
-use Rattle.optional.proofs.Lent.{Back, lends, returned, ended}
+use Rattle.optional.proofs.Tokens.{Back, lends, returned, ended}
 use Rattle.optional.proofs.reader.Reader as T
 use Rattle.optional.proofs.reader.Reader.Laws as T′
 use Rattle.optional.proofs.part.Parameter as S

@@ -1,9 +1,7 @@
 -- Each field is what the definition has.
 use Prim.Native.Nat.{_+_, _-_}
 use mathlib.Core.Path.{ap, _∙_}
-use mathlib.Core.Bool.{Bool, true, false, _&&_}
-use native.Mathlib.Omega.{arith}
-use lib.Dec.{eqb}
+use mathlib.Core.Bool.{Bool, _&&_}
 use borrow.Author.Needs.{needs}
 use Rattle.optional.proofs.survey.further.Statement.{statement}
 use Rattle.optional.proofs.survey.further.Tie as tie

@@ -1,5 +1,5 @@
 -- Each test of the code is one of the definition's, in its order; what the code measures are the contents.
-use mathlib.Core.Path.{refl, ap, sym, _∙_}
+use mathlib.Core.Path.{refl}
 use native.Mathlib.Omega.{arith}
 use lib.ListN.{length}
 use lib.Dec.{eqb}

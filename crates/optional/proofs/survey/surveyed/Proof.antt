@@ -1,9 +1,8 @@
 -- What stands at the place decides; it lies within the list.
-use mathlib.Core.Path.{_≡_, ap, sym, _∙_}
+use mathlib.Core.Path.{ap, _∙_}
 use native.Mathlib.Omega.{arith}
 use borrow.Author.Needs.{needs}
 use Rattle.octets.proofs.Tests.{if-true, if-false}
-use Rattle.optional.specs.declared.list.Entry.{Entry}
 use Rattle.optional.specs.Survey.{cutShort, further, surveyed}
 use Rattle.optional.proofs.Entries.{lies}
 use Rattle.optional.proofs.survey.surveyed.Statement.{statement}

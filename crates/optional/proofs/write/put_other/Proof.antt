@@ -1,6 +1,6 @@
 -- The name and the count, and after them the contents.
 use Prim.Native.Nat.{ℕ, _+_, _-_}
-use mathlib.Core.Path.{ap, ap₂, _∙_}
+use mathlib.Core.Path.{ap, _∙_}
 use mathlib.Core.List.{List, [], _∷_}
 use lib.ListN.{take, drop}
 use denote.Ref.{now}

@@ -1,6 +1,5 @@
--- `reader::new` meets its contract: a walk of its MIR, by hand. A `Reader` is made of the slice passed and 0, in the result's local.
--- A `&[u8]` is Copy, so what it owns is had twice: once for src at exit, and once inside the result, beside the facts of at.
--- Assumes nothing.
+-- A walk of the code by hand. A reader is made of the part passed and place 0, in the result's local. A `&[u8]` is Copy, so what it owns is had twice:
+-- once for the part at exit, and once inside the result, beside the facts of the place.
 use mathlib.Core.Path.{refl}
 use Prim.Native.Nat.{ℕ}
 use mathlib.Core.List.{List, [], _∷_}

@@ -1,5 +1,6 @@
--- A walk of the MIR by hand. The borrow of the reader is opened; of the reader, which is Copy but for its place, the slice goes to `parameter_at` as a copy;
--- the place that it gave back is stored beside the slice, and the borrow is closed at the reader that has moved. All that is known of `parameter_at` is its contract.
+-- A walk of the code by hand. The borrow of the reader is opened; of the reader, which is Copy but for its place, the slice goes to `parameter_at` as
+-- a copy; the place that it gave back is stored beside the slice, and the borrow is closed at the reader that has moved. All that is known of
+-- `parameter_at` is its contract.
 use mathlib.Core.Path.{_≡_, refl, ap, subst}
 use Prim.Native.Nat.{ℕ, _<_, _^_}
 use mathlib.Core.List.{List, [], _∷_}
@@ -43,7 +44,6 @@ use denote.Triple.Spec.{Meets, tripleOf}
 use denote.Triple.Table.{entered, cited}
 use denote.Triple.Clauses.{ensured, lasts}
 use denote.Triple.Walked.{says, Stays, stay-ref, walkOf, goes-ref, Walks, ends-at, walked, walk-meets}
-use denote.Exit.{yes}
 use Rattle.optional.specs.Part.{parameterAt}
 use Rattle.optional.specs.declared.reader.Reader.{Reader}
 use Rattle.optional.specs.declared.part.Parameter.{Parameter}
