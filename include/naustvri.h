@@ -230,7 +230,7 @@ struct naustvri_parameter {
     uint8_t number;     /* 0, 61 or 62 */
     uint8_t name;       /* 0 at the end and at a refusal */
     uint8_t length;     /* how many octets of contents */
-    size_t start;       /* the place where they start, with none too */
+    size_t start;       /* the place behind the length octet, where the contents start, even if there are none */
     size_t next;        /* the place of the next name */
 };
 
@@ -279,6 +279,8 @@ uint8_t naustvri_write_reference(uint8_t *buffer, size_t buffer_len, struct naus
  *   struct naustvri_parameter p = naustvri_next_parameter(part, part_len, 0);
  *   for (; p.number == 0 && p.name != 0; p = naustvri_next_parameter(part, part_len, p.next))
  *       use(p.name, part + p.start, p.length);
+ *   if (p.number != 0)
+ *       refuse(p.number); .. 61 or 62: the part is not whole
  */
 struct naustvri_parameter naustvri_next_parameter(const uint8_t *part, size_t part_len, size_t place);
 

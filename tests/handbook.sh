@@ -8,8 +8,17 @@ archive=${1:-$(library)}
 handbook=$repository/docs/HANDBOOK.md out=$repository/target/handbook
 mkdir -p "$out"
 
-# build PROGRAM: a program of tests/ that calls the library.
-build() { "$xcc" -O2 -Wall -Wextra -I "$repository/include" -static -no-pie -o "$out/$1" "$repository/tests/$1.c" "$archive"; }
+# The C that it shows compiles without a warning.
+printf '#include <%s>\n' stdio.h naustvri.h >"$out/shown.c"
+sed -n '/^```c$/,/^```$/{/^```/!p;}' "$handbook" >>"$out/shown.c"
+"$xcc" -Wall -Wextra -Werror -Wno-unused-function -I "$repository/include" -fsyntax-only "$out/shown.c"
+
+# build PROGRAM WORDS..: a program of tests/ that calls the library.
+build() {
+    program=$1
+    shift
+    "$xcc" -O2 -Wall -Wextra -I "$repository/include" "$@" -static -no-pie -o "$out/$program" "$repository/tests/$program.c" "$archive"
+}
 
 # The indented lines that replay.c reads, without the words that follow after three spaces.
 build replay
@@ -18,12 +27,14 @@ run_x86 "$out/replay" <"$out/printed" >"$out/given"
 diff "$out/printed" "$out/given"
 events=$(grep -c '^event' "$out/printed") || die "no event found in HANDBOOK.md"
 
-# The indented lines that message.c reads, without the words that follow after three spaces.
-build message
+# The indented lines that message.c reads, without the words that follow after three spaces; it calls the C that is shown.
+build message -I "$out" -Wno-unused-function
 sed -E '/^    (message|place|found|listed|written) [0-9a-f]/!d; s/^    //; s/   .*//' "$handbook" >"$out/shown-message"
 run_x86 "$out/message" <"$out/shown-message" >"$out/read-message"
 diff "$out/shown-message" "$out/read-message"
-[ -s "$out/shown-message" ] || die "no message found in HANDBOOK.md"
+for line in message place found listed written; do
+    grep -q "^$line " "$out/shown-message" || die "no line that begins with $line in HANDBOOK.md"
+done
 
 # The fifth column's ways, each after the number in the second; a number that cannot be provoked has none.
 build provoke
@@ -36,11 +47,6 @@ awk -F ' *[|] *' '
     }' "$handbook" >"$out/ways"
 run_x86 "$out/provoke" >"$out/provoked"
 diff "$out/ways" "$out/provoked"
-
-# The C that it shows compiles without a warning.
-printf '#include <%s>\n' stdio.h naustvri.h >"$out/shown.c"
-sed -n '/^```c$/,/^```$/{/^```/!p;}' "$handbook" >>"$out/shown.c"
-"$xcc" -Wall -Wextra -Werror -Wno-unused-function -I "$repository/include" -fsyntax-only "$out/shown.c"
 
 # Every link within the handbook leads to a heading.
 sed -n 's/^##* //p' "$handbook" | tr 'A-Z ' 'a-z-' | tr -cd 'a-z0-9\n-' | sort >"$out/headings"

@@ -1,8 +1,9 @@
-/* Reads the initial address message of a text by the library and writes the text again with what the library gives. Its lines, on standard input:
+/* Reads the initial address messages of a text by the library, with the C that the handbook shows (shown.c), and writes the text again with what the
+ * library gives. Its lines, on standard input:
  *
  *   message OCTETS           the octets of a message before its optional part, in hexadecimal
  *   place .. | .. | OCTETS   what stands at a place of the part: place, name, count and octets come from a walk
- *   found ..                 what is found in the part
+ *   found ..                 what the C that is shown finds in the message
  *   listed OCTETS            a parameter of a list
  *   written ..               what the list is written as */
 #include <stdio.h>
@@ -10,6 +11,7 @@
 #include <string.h>
 
 #include "naustvri.h"
+#include "shown.c"
 
 /* The eighth octet of an initial address message points at its optional part. */
 enum { POINTER = 7 };
@@ -57,21 +59,24 @@ static void print_walk(const uint8_t *part, size_t length)
         print_octets(" | end |", part + place, 1);
 }
 
+/* Where the part of the message starts; its end where it has none. */
+static size_t part_of_message(void)
+{
+    size_t part = message.count > POINTER ? POINTER + message.octet[POINTER] : 0;
+    return part > POINTER && part < message.count ? part : message.count;
+}
+
 static void print_message(void)
 {
-    if (message.count <= POINTER)
-        exit(2);
-    size_t before = POINTER + message.octet[POINTER];
-    if (before == POINTER || before >= message.count)
-        exit(2);
-    const uint8_t *part = message.octet + before;
-    size_t length = message.count - before;
-    print_octets("message", message.octet, before);
-    print_walk(part, length);
-    struct naustvri_found_precedence found = naustvri_find_precedence(part, length);
+    size_t part = part_of_message();
+    print_octets("message", message.octet, part);
+    if (part < message.count)
+        print_walk(message.octet + part, message.count - part);
+    struct naustvri_found_precedence found = precedence_of(message.octet, message.count);
     printf("found %u: %u at %zu, end %zu | level %u, LFB %u, digits %u%u%u%u, service domain %u\n", found.number, found.found, found.start, found.end,
            found.value.level, found.value.lfb, found.value.digits[0], found.value.digits[1], found.value.digits[2], found.value.digits[3],
            (unsigned)found.value.service);
+    message.count = 0;
 }
 
 static void print_listed(const char *words)

@@ -62,8 +62,8 @@ pub fn find_precedence(part: &[u8]) -> FoundPrecedence {
 /// spare bits 0, then one octet 0 as the end; octets of the buffer behind it stay. 20: the buffer has too little room, that is 2 octets a parameter,
 /// its contents, and 1 for the end; or the lent list is cut short inside a parameter. Then 22: a name 0, contents of more than 255 octets, or
 /// precedence that is not six well-formed octets. Then 63: precedence twice. Each is looked for in the whole list before the next, so precedence
-/// twice, the second malformed, is 22 here, and 63 where it is read. At a refusal the buffer is as it was. A buffer of one octet more than the list has
-/// room for every list: 20 is then a list that is cut short.
+/// twice, the second malformed, is 22 here, and 63 where it is read. At a refusal the buffer is as it was. A buffer of `list.len() + 1`
+/// octets has room for every list: 20 is then a list that is cut short.
 ///
 /// The list is lent as octets, parameter after parameter: its name, how many octets of contents in two octets, the low one first, and the contents.
 /// It has no end octet. An empty list gives a part of one octet 0. [`push_parameter`](crate::push_parameter) puts a parameter into a list.

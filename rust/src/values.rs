@@ -60,7 +60,7 @@ pub struct ParameterReading {
     pub name: u8,
     /// How many octets of contents there are.
     pub length: u8,
-    /// The place of the first of them.
+    /// The place behind the length octet, where the contents start, even if there are none.
     pub start: usize,
     /// The place of the next name.
     pub next: usize,

@@ -408,7 +408,10 @@ fn parameters_of_a_list() {
     assert_eq!(list, wanted);
     assert_eq!(push_parameter(&mut list, 8, 9, &[3, 4]), Some(13));
     assert_eq!(list[8..], [9, 2, 0, 3, 4]);
+}
 
+#[test]
+fn long_parameters_of_a_list() {
     // As many octets as two octets can count, and one more.
     let (contents, mut list) = (vec![1; 65536], vec![0xff; 65540]);
     assert_eq!(push_parameter(&mut list, 0, 7, &contents), None);
@@ -452,7 +455,8 @@ fn draw_parameter(random: &mut Random) -> (u8, Vec<u8>) {
     };
     let mut contents: Vec<u8> = (0..length).map(|_| random.below(10) as u8).collect();
     if name == NAME_PRECEDENCE {
-        contents[0] = random.below(256) as u8 & 0x94;
+        let (spare, lfb, level) = (random.below(4), random.below(3), random.below(5));
+        contents[0] = (spare % 2 * 0x80 + spare / 2 * 0x10 + lfb * 0x20 + level) as u8;
     }
     (name, contents)
 }

@@ -2,7 +2,7 @@
 use Prim.Native.Nat.{ℕ, zero, suc, _+_, _≤_, _<_}
 use mathlib.Core.Path.{_≡_, refl, sym, ap, subst, _∙_}
 use mathlib.Core.Bool.{Bool, true, false, cond, _&&_, not, true≢false}
-use mathlib.Core.List.{List, [], _++_}
+use mathlib.Core.List.{List, _++_}
 use native.Mathlib.Omega.{arith}
 use lib.ListN.{length, getD, take, drop, length-append, length-drop, List·getD-append}
 use lib.Seq.{ext-getD, getD-take, getD-drop, length-take-le}
@@ -15,21 +15,7 @@ use Rattle.optional.specs.declared.search.Search.{Search}
 use Rattle.optional.specs.Part.{standing, parameterAt, isParameter, contents, steps, walk}
 use Rattle.optional.specs.Search.{begun, refused, ended, taken, noted, judged, find}
 use Rattle.optional.specs.Claims.{Behind}
-use Rattle.optional.proofs.Walk.{cases, within, onward, closes, closed, turn}
-
--- more steps than enough change nothing
-enough : (s : List ℕ) (h : Search) (m m′ at : ℕ) → at ≤ length s → length s < at + m → length s < at + m′
-    → judged s h (steps m s at) ≡ judged s h (steps m′ s at)
-enough s h zero m′ at l f f′ = absurd (omega arith)
-enough s h (suc m) zero at l f f′ = absurd (omega arith)
-enough s h (suc m) (suc m′) at l f f′ =
-    let p = parameterAt s at in
-    let h′ = noted s h p in
-    let onto : ℕ → Bool → Search = λ n b. judged s h′ (cond b (steps n s (p .next)) []) in
-    ap (λ (x : Search). cond (h .going) x h)
-    (by-so (isParameter p)
-    (λ t. let o = onward s at t in ap (onto m) t ∙ enough s h′ m m′ (p .next) (o .1) (omega arith) (omega arith) ∙ sym (ap (onto m′) t))
-    (λ f₀. ap (onto m) f₀ ∙ sym (ap (onto m′) f₀)))
+use Rattle.optional.proofs.Walk.{cases, within, onward, enough, closes, closed, turn}
 
 -- ---- what a step leaves
 module _ (s : List ℕ) (at : ℕ) where
@@ -212,7 +198,8 @@ behind s t n =
     let agree : (j : ℕ) → j < e → getD s j 0 ≡ getD s′ j 0
     = λ j l. sym (getD-take e s j 0 l) ∙ sym (List·getD-append front t 0 j (omega arith)) in
     let m = suc (length s + length s′) in
-    let more : judged s begun (walk s) ≡ judged s begun (steps m s 0) = enough s begun (suc (length s)) m 0 (omega arith) (omega arith) (omega arith) in
+    let more : judged s begun (walk s) ≡ judged s begun (steps m s 0) =
+    ap (judged s begun) (enough s (suc (length s)) m 0 (omega arith) (omega arith) (omega arith)) in
     let found =
     same s s′ e (omega arith) agree m 0 begun refl (omega arith) (omega arith) (sym (λ i. more i .result .number) ∙ n) (sym (λ i. more i .result .end)) in
-    ap (λ (h : Search). h .result) (sym (more ∙ found .1 ∙ enough s′ begun m (suc (length s′)) 0 (omega arith) (omega arith) (omega arith)))
+    ap (λ (h : Search). h .result) (sym (more ∙ found .1 ∙ ap (judged s′ begun) (enough s′ m (suc (length s′)) 0 (omega arith) (omega arith) (omega arith))))

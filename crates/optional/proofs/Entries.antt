@@ -19,11 +19,11 @@ counted l e f g = let d = length-drop (e .start) l in length-take-le (e .next - 
 
 module _ (l : List ℕ) (at : ℕ) where
   -- a parameter that stands at this place
-  abbrev pub Stood : Entry
-  Stood = record { whole = true; name = getD l at 0; start = at + 3; next = behind l at }
+  abbrev pub wholeEntry : Entry
+  wholeEntry = record { whole = true; name = getD l at 0; start = at + 3; next = behind l at }
 
   -- what holds of a whole parameter and of one that is cut short holds of what stands here
-  pub cases : (P : Entry → Type 0) → (behind l at ≤ length l → P Stood) → (length l < behind l at → P (cut (length l))) → P (entryAt l at)
+  pub cases : (P : Entry → Type 0) → (behind l at ≤ length l → P wholeEntry) → (length l < behind l at → P (cut (length l))) → P (entryAt l at)
   unfolding entryAt
   cases P whole short =
       by-test P (ltb (length l) (behind l at)) _ _ (λ t. short (ltb-true (length l) (behind l at) t)) (λ t. whole (ltb-false (length l) (behind l at) t))
@@ -41,7 +41,7 @@ module _ (l : List ℕ) (at : ℕ) where
       there w = subst Lies (sym h) (cases (λ x. x .whole ≡ true → Lies x) (λ f _. record { starts = refl; onward = omega arith; within = f }) (λ _ u. absurd (true≢false (sym u))) w)
 
   -- its contents are those of the list's item
-  pub same-item : itemOf l Stood ≡ itemAt l at
+  pub same-item : itemOf l wholeEntry ≡ itemAt l at
   same-item =
       let count : behind l at - (at + 3) ≡ countAt l at = omega arith in
       λ i. record { name = getD l at 0; contents = take (count i) (drop (at + 3) l) }

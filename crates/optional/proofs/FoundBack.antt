@@ -1,26 +1,25 @@
 -- Precedence is found in what was written exactly if the list has it, at its place and with its values, and the part ends where the writer says.
 use Prim.Native.Nat.{ℕ, _+_, _≤_}
 use mathlib.Core.Path.{_≡_, refl, sym, ap, _∙_}
-use mathlib.Core.Bool.{Bool, true, false, cond, _||_, not}
+use mathlib.Core.Bool.{Bool, true, false, cond}
 use mathlib.Core.List.{List, [], _∷_}
 use native.Mathlib.Nat.{zero-add}
 use native.Mathlib.Omega.{arith}
-use lib.ListN.{length}
-use lib.Dec.{eqb, leb}
-use borrow.Author.Tests.{not-true}
-use Rattle.octets.proofs.Tests.{by-so, and-right, if-true, if-false, if-eq}
+use borrow.Author.Tests.{eqb-true}
+use Rattle.octets.proofs.Tests.{by-so, if-true, if-false, if-eq, if-ne}
 use Rattle.rules.specs.Numbers.{done}
 use Rattle.fields.specs.declared.precedence.Precedence.{Precedence}
 use Rattle.fields.specs.Precedence.{readPrecedence}
 use Rattle.optional.specs.declared.part.Parameter.{Parameter}
 use Rattle.optional.specs.declared.search.Search.{Search}
-use Rattle.optional.specs.Part.{endName, stopped, contents}
+use Rattle.optional.specs.Part.{endName, precedenceName, stopped, contents}
 use Rattle.optional.specs.Search.{begun, taken, noted, judged, find}
 use Rattle.optional.specs.List.{Item, items}
 use Rattle.optional.specs.Write.{isPrecedence, plain, room, sound, precedences, writeBuffer}
 use Rattle.optional.specs.Claims.{startIn, valueIn, FoundBack}
 use Rattle.optional.proofs.Written.{plain-read, placed}
-use Rattle.optional.proofs.Through.{stood, named, met}
+use Rattle.optional.proofs.Through.{stood, met}
+use Rattle.optional.proofs.Sound.{named, read-well}
 
 -- the search that took the precedence i at a place
 abbrev took : Item → ℕ → Search
@@ -31,20 +30,17 @@ module _ (s : List ℕ) (h : Search) (i : Item) (at : ℕ) (k : sound i ≡ true
   -- another name leaves the search as it was
   skips : isPrecedence i ≡ false → h ≡ noted s h (stood i at)
   unfolding noted
-  skips f = if-false _ _ (eqb (i .name) endName) refl (not-true _ (named i k)) (if-false _ _ (isPrecedence i) refl f refl)
+  skips f = if-ne _ _ (i .name) endName (named i k) (if-false _ _ (isPrecedence i) refl f refl)
 
   -- the first precedence is taken
   takes : contents s (stood i at) ≡ plain i .contents → isPrecedence i ≡ true → h .result .found ≡ 0 → took i at ≡ noted s h (stood i at)
   unfolding noted
   takes c t z =
       let read : readPrecedence (contents s (stood i at)) ≡ readPrecedence (i .contents) = ap readPrecedence c ∙ plain-read i in
-      let well : eqb (readPrecedence (i .contents) .number) done ≡ true
-      = sym (ap (λ (b : Bool). not b || eqb (readPrecedence (i .contents) .number) done) t)
-      ∙ and-right (leb (length (i .contents)) 255) _ (and-right (not (eqb (i .name) endName)) _ k) in
-      if-false _ _ (eqb (i .name) endName) refl (not-true _ (named i k))
+      if-ne _ _ (i .name) endName (named i k)
       (if-true _ _ (isPrecedence i) refl t
       (if-eq _ _ (h .result .found) 0 z
-      (if-true _ _ (eqb (readPrecedence (i .contents) .number) done) refl well refl ∙ ap (taken (at + 2)) (sym read))))
+      (if-eq _ _ (readPrecedence (i .contents) .number) done (read-well i k (eqb-true (i .name) precedenceName t)) refl ∙ ap (taken (at + 2)) (sym read))))
 
   -- the search goes on with what a parameter made of it
   turns : (h′ : Search) (ps : List Parameter) → h .going ≡ true → h′ ≡ noted s h (stood i at) → judged s h (stood i at ∷ ps) ≡ judged s h′ ps

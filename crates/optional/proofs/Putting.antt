@@ -14,7 +14,7 @@ use Rattle.optional.specs.List.{Item, behind, itemAt, itemsFrom, items, 
 use Rattle.optional.specs.Write.{octetsOf, partOf, sound, allSound}
 use Rattle.optional.specs.Survey.{itemOf, Writable}
 use Rattle.optional.proofs.Written.{plain-length, part-room, more-room}
-use Rattle.optional.proofs.Entries.{counted, Stood, same-item, item-first, whole-first, item-none, whole-within}
+use Rattle.optional.proofs.Entries.{counted, wholeEntry, same-item, item-first, whole-first, item-none, whole-within}
 
 module _ (b l : List ℕ) where
   -- m parameters more are allowed, which is enough; v was written in front of b
@@ -50,23 +50,23 @@ module _ (b l : List ℕ) where
     ends-within : behind l at ≤ length l
     ends-within = whole-within l (behind l at) m further
 
-    stood : entryAt l at ≡ Stood l at
+    stood : entryAt l at ≡ wholeEntry l at
     unfolding entryAt
     stood = sym (if-ge _ _ (length l) (behind l at) ends-within refl)
 
     all-sound : allSound (itemAt l at ∷ rest) ≡ true
     all-sound = sym (ap allSound (item-first l at f m)) ∙ st .is-sound
 
-    the-part : v ++ (octetsOf (itemOf l (Stood l at)) ++ partOf rest) ≡ partOf (items l)
+    the-part : v ++ (octetsOf (itemOf l (wholeEntry l at)) ++ partOf rest) ≡ partOf (items l)
     the-part =
         ap (λ (i : Item). v ++ (octetsOf i ++ partOf rest)) (same-item l at)
         ∙ sym (ap (λ (is : List Item). v ++ partOf is) (item-first l at f m)) ∙ st .rest
 
-    here : Turn (suc m) u at to v (Stood l at)
+    here : Turn (suc m) u at to v (wholeEntry l at)
     here =
-        let o = octetsOf (itemOf l (Stood l at)) in
-        let n = plain-length (itemOf l (Stood l at)) in
-        let k = counted l (Stood l at) (omega arith) ends-within in
+        let o = octetsOf (itemOf l (wholeEntry l at)) in
+        let n = plain-length (itemOf l (wholeEntry l at)) in
+        let k = counted l (wholeEntry l at) (omega arith) ends-within in
         let whole = ap length the-part ∙ part-room (items l) in
         let front = length-append v (o ++ partOf rest) in
         let back = length-append o (partOf rest) in

@@ -9,9 +9,9 @@ use lib.Dec.{eqb}
 use Rattle.octets.proofs.Tests.{by-test, and-assoc}
 use Rattle.optional.specs.declared.survey.Survey.{Survey}
 use Rattle.optional.specs.List.{Item, behind, itemAt, itemsFrom, items, wholeFrom, whole, cut}
-use Rattle.optional.specs.Write.{room, sound, allSound, precedences}
-use Rattle.optional.specs.Survey.{once, cutShort, further, surveyed, Bounded, Surveyed}
-use Rattle.optional.proofs.Entries.{Stood, cases, same-item, item-length, item-first, whole-first, item-none, whole-end, whole-past}
+use Rattle.optional.specs.Write.{room, sound, allSound, once, precedences}
+use Rattle.optional.specs.Survey.{cutShort, further, surveyed, Bounded, Surveyed}
+use Rattle.optional.proofs.Entries.{wholeEntry, cases, same-item, item-length, item-first, whole-first, item-none, whole-end, whole-past}
 
 at-most-once : (name : ℕ) → once name ≤ 1
 at-most-once name = by-test (λ (n : ℕ). n ≤ 1) (eqb name 58) 1 0 (λ _. omega arith) (λ _. omega arith)
@@ -47,7 +47,7 @@ module _ (l : List ℕ) where
 
   module _ (m : ℕ) (h : Survey) (st : Stands (suc m) h) (f : h .place < length l) where
     -- one whole parameter more
-    adds : behind l (h .place) ≤ length l → Stands m (further l h (Stood l (h .place)))
+    adds : behind l (h .place) ≤ length l → Stands m (further l h (wholeEntry l (h .place)))
     adds fits =
         let at = h .place in
         let r = st .bounded .room in
@@ -62,7 +62,7 @@ module _ (l : List ℕ) where
           sums = λ w. added (subst (Sums h) (item-first l at f m) (st .sums w));
         }
       where
-        added : Sums h (itemAt l (h .place) ∷ itemsFrom m l (behind l (h .place))) → Sums (further l h (Stood l (h .place))) (itemsFrom m l (behind l (h .place)))
+        added : Sums h (itemAt l (h .place) ∷ itemsFrom m l (behind l (h .place))) → Sums (further l h (wholeEntry l (h .place))) (itemsFrom m l (behind l (h .place)))
         added s =
             let at = h .place in
             let rest = itemsFrom m l (behind l at) in

@@ -7,13 +7,13 @@ use native.Mathlib.Omega.{arith}
 use lib.ListN.{length, getD, take, drop, length-append}
 use lib.Seq.{getD-at, getD-append-add, take-at, drop-append-add}
 use lib.Dec.{eqb}
-use borrow.Author.Tests.{eqb-false, not-true}
 use Rattle.octets.proofs.Tests.{and-left, and-right, if-eq, if-ne, if-gt, if-ge}
 use Rattle.rules.specs.Numbers.{done}
 use Rattle.optional.specs.declared.part.Parameter.{Parameter}
 use Rattle.optional.specs.Part.{endName, stopped, standing, parameterAt, isParameter, contents, steps, walk}
 use Rattle.optional.specs.List.{Item, items}
 use Rattle.optional.specs.Write.{plain, octetsOf, partOf, room, sound, allSound, write, writeBuffer}
+use Rattle.optional.proofs.Sound.{named}
 use Rattle.optional.proofs.Written.{plain-length, part-room, more-room, placed}
 
 -- ---- one parameter behind some octets
@@ -54,9 +54,9 @@ end-is s pre post e =
 abbrev pub stood : Item → ℕ → Parameter
 stood i at = standing (i .name) (length (i .contents)) at
 
--- a sound parameter has another name than the end
-pub named : (i : Item) → sound i ≡ true → not (eqb (i .name) endName) ≡ true
-named i k = and-left (not (eqb (i .name) endName)) _ k
+-- a sound parameter is met as a parameter
+pub is-met : (i : Item) (at : ℕ) → sound i ≡ true → isParameter (stood i at) ≡ true
+is-met i at k = and-left (not (eqb (i .name) endName)) _ k
 
 -- what holds at the end, and passes back over a parameter, holds of a walk through a written list
 module _ (s : List ℕ) (P : ℕ → List Item → List Parameter → Type 0)
@@ -80,8 +80,8 @@ module _ (s : List ℕ) (P : ℕ → List Item → List Parameter → Type 0)
       let further =
       met-from is (pre ++ octetsOf i) post m (and-right (sound i) (allSound is) ok) (omega arith) (here ∙ sym (append-assoc pre (octetsOf i) rest)) in
       subst (λ (p : Parameter). P (length pre) (i ∷ is) (p ∷ cond (isParameter p) (steps m s (p .next)) []))
-      (stands s pre (i .name) k c rest here d (eqb-false (i .name) 0 (not-true (eqb (i .name) 0) (named i good))))
-      (subst (λ (t : Bool). P (length pre) (i ∷ is) (stood i (length pre) ∷ cond t (steps m s (stood i (length pre) .next)) [])) (sym (named i good))
+      (stands s pre (i .name) k c rest here d (named i good))
+      (subst (λ (t : Bool). P (length pre) (i ∷ is) (stood i (length pre) ∷ cond t (steps m s (stood i (length pre) .next)) [])) (sym (is-met i (length pre) good))
       (over (length pre) i is (steps m s (stood i (length pre) .next)) good (inside s pre (i .name) k c rest here d)
       (subst (λ (n : ℕ). P n is (steps m s n)) passed further)))
 

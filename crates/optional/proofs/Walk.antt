@@ -46,6 +46,19 @@ module _ (s : List ℕ) where
       (λ t. absurd (true≢false (sym t)))
       (λ _ _ f _. (omega arith, f))
 
+  -- more steps than enough change nothing
+  pub enough : (m m′ at : ℕ) → at ≤ length s → length s < at + m → length s < at + m′ → steps m s at ≡ steps m′ s at
+  enough zero m′ at l f f′ = absurd (omega arith)
+  enough (suc m) zero at l f f′ = absurd (omega arith)
+  enough (suc m) (suc m′) at l f f′ =
+      let p = parameterAt s at in
+      let onto : ℕ → Bool → List Parameter = λ n b. p ∷ cond b (steps n s (p .next)) [] in
+      by-so (isParameter p)
+      (λ t.
+      let o = onward at t in
+      ap (onto m) t ∙ ap (λ (ps : List Parameter). p ∷ ps) (enough m m′ (p .next) (o .1) (omega arith) (omega arith)) ∙ sym (ap (onto m′) t))
+      (λ n. ap (onto m) n ∙ sym (ap (onto m′) n))
+
   -- at what is no parameter the search ends
   pub closes : (h : Search) (p : Parameter) → isParameter p ≡ false → noted s h p .going ≡ false
   unfolding noted

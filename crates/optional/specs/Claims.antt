@@ -12,7 +12,7 @@ use Rattle.optional.specs.declared.part.Parameter.{Parameter}
 use Rattle.optional.specs.Part.{isParameter, contents, walk}
 use Rattle.optional.specs.Search.{noValue, find}
 use Rattle.optional.specs.List.{Item, items, whole}
-use Rattle.optional.specs.Write.{isPrecedence, plain, room, precedences, write, writeBuffer}
+use Rattle.optional.specs.Write.{isPrecedence, plain, precedences, write, writeBuffer}
 
 -- a parameter list as it is lent
 abbrev pub lent : List Item → List ℕ
@@ -59,6 +59,6 @@ Behind = (s t : List ℕ) → find s .number ≡ done → find (take (find s .en
 abbrev pub Stays : Type 0
 Stays = (b l : List ℕ) → (length (writeBuffer b l) ≡ length b) × ((i : ℕ) → write b l .end ≤ i → getD (writeBuffer b l) i 0 ≡ getD b i 0)
 
--- "20 for too little room": a buffer of one octet more than the list has room for it, so that 20 is then a list that is cut short
+-- "20 for too little room": a buffer that is longer than the list has room for its part, so that 20 is then a list that is cut short
 abbrev pub RoomEnough : Type 0
 RoomEnough = (b l : List ℕ) → length l < length b → write b l .number ≡ wrongLength → whole l ≡ false

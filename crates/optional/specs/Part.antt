@@ -40,7 +40,8 @@ abbrev pub steps : ℕ → List ℕ → ℕ → List Parameter
 steps zero s at = []
 steps (suc n) s at = parameterAt s at ∷ cond (isParameter (parameterAt s at)) (steps n s (parameterAt s at .next)) []
 
--- "goes through the lent octets parameter by parameter": each takes two octets at least, so that one step more than there are octets is enough
+-- "goes through the lent octets parameter by parameter": each takes two octets at least, so that one step more than there are octets is
+-- enough, and more change nothing
 unfoldable pub walk : List ℕ → List Parameter
 walk s = steps (suc (length s)) s 0
 

@@ -4,21 +4,17 @@ use mathlib.Core.Path.{_≡_}
 use mathlib.Core.Bool.{true, false, cond, _&&_}
 use mathlib.Core.List.{List}
 use lib.ListN.{length, take, drop}
-use lib.Dec.{eqb, leb}
+use lib.Dec.{leb}
 use Rattle.rules.specs.declared.outcome.Refusal.the-variants.{Malformed}
 use Rattle.rules.specs.Numbers.{done, wrongLength, precedenceTwice, refusalNumber}
 use Rattle.optional.specs.declared.list.Entry.{Entry}
 use Rattle.optional.specs.declared.survey.Survey.{Survey}
-use Rattle.optional.specs.Part.{precedenceName}
 use Rattle.optional.specs.List.{Item, items, whole, entryAt}
-use Rattle.optional.specs.Write.{room, sound, allSound, precedences}
+use Rattle.optional.specs.Write.{room, sound, allSound, once, precedences}
 
 -- the parameter that stands there
 abbrev pub itemOf : List ℕ → Entry → Item
 itemOf l e = record { name = e .name; contents = take (e .next - e .start) (drop (e .start) l) }
-
-abbrev pub once : ℕ → ℕ  -- 1 for precedence, else 0
-once name = cond (eqb name precedenceName) 1 0
 
 -- what one parameter more, or one that is cut short, makes of a survey
 abbrev pub cutShort : Survey → Entry → Survey

@@ -43,10 +43,13 @@ abbrev pub allSound : List Item → Bool
 allSound [] = true
 allSound (i ∷ is) = sound i && allSound is
 
+abbrev pub once : ℕ → ℕ  -- 1 for the name of precedence, else 0
+once name = cond (eqb name precedenceName) 1 0
+
 -- "then 63": how often precedence is given
 abbrev pub precedences : List Item → ℕ
 precedences [] = 0
-precedences (i ∷ is) = cond (isPrecedence i) 1 0 + precedences is
+precedences (i ∷ is) = once (i .name) + precedences is
 
 -- x where the list l is written into the buffer b, else what a refusal gives: each test is of the whole list before the next. A list that is itself cut
 -- short has a wrong length too.

@@ -9,8 +9,8 @@ ghost use mathlib.Core.Path.{_≡_};
 ghost use mathlib.Core.Bool.{_&&_};
 ghost use Prim.Native.Nat.{_+_, _-_, _<_, _≤_};
 ghost use lib.ListN.{length};
-ghost use Rattle.optional.specs.Write.{sound};
-ghost use Rattle.optional.specs.Survey.{Bounded, Surveyed, itemOf, once, cutShort, further, surveyed, judged};
+ghost use Rattle.optional.specs.Write.{sound, once};
+ghost use Rattle.optional.specs.Survey.{Bounded, Surveyed, itemOf, cutShort, further, surveyed, judged};
 
 // What was found of a list up to a place.
 pub struct Survey {

@@ -1,4 +1,5 @@
-// The program plays both sides of every line of document 01, and of what document 02 adds: a script on standard input is written out again with what each row answers after it.
+// The program plays both sides of every line of document 01, and of what document 02 adds: a script on standard input is written out again with what
+// each row answers after it.
 mod asked;
 mod field;
 mod part;
