@@ -73,7 +73,7 @@ same : tie.Need-same-length Inv-loop μ-loop
 same c =
     let start = c .before .before .before .before in
     let loop = c .before .loop in
-    length-set (loop .buffer) (loop .to) 0
+    length-set (loop .buffer) (loop .to) _
     ∙ same-size (now (start .args .buffer)) (now (start .args .list)) (start .pre) (loop .inv .0) (loop .buffer) (loop .place) (loop .to) (loop .inv .1 .0) (loop .inv .1 .1) (c .loop-test .left)
 
 returns : tie.Need-returns Inv-loop μ-loop
