@@ -53,29 +53,27 @@ fn texts() {
         (number_name(2), number_meaning(7)),
         ("SEIZED_WITH_LOSS", "the clock was looked at")
     );
-    assert_eq!(
-        (number_name(8), number_meaning(8)),
-        (
-            "UNMARKED",
-            "the holder stays, without a precedence; a reservation above it, if there was one, is lost"
-        )
-    );
-    assert_eq!(
-        (number_name(60), number_meaning(60)),
-        ("TOO_MANY_LISTS", "a list too many: the totals take no more")
-    );
-    assert_eq!(
-        (number_name(0), number_meaning(0)),
-        (
-            "DONE",
-            "list carried out, table valid, or field or optional part read or written"
-        )
-    );
-    assert_eq!(
-        (number_name(22), number_meaning(22)),
-        ("MALFORMED", "the event, field or parameter is malformed")
-    );
     for (number, name, meaning) in [
+        (
+            0,
+            "DONE",
+            "list carried out, table valid, or field or optional part read or written",
+        ),
+        (
+            8,
+            "UNMARKED",
+            "the holder stays, without a precedence; a reservation above it, if there was one, is lost",
+        ),
+        (
+            22,
+            "MALFORMED",
+            "the event, field or parameter is malformed",
+        ),
+        (
+            60,
+            "TOO_MANY_LISTS",
+            "a list too many: the totals take no more",
+        ),
         (
             61,
             "PARAMETER_CUT_SHORT",

@@ -16,10 +16,11 @@ use Rattle.optional.specs.Write.{room, sound, allSound, once, precedence
 abbrev pub itemOf : List ℕ → Entry → Item
 itemOf l e = record { name = e .name; contents = take (e .next - e .start) (drop (e .start) l) }
 
--- what one parameter more, or one that is cut short, makes of a survey
+-- a parameter that is cut short ends the list
 abbrev pub cutShort : Survey → Entry → Survey
 cutShort h e = record { whole = false; place = e .next; room = h .room; sound = h .sound; precedences = h .precedences }
 
+-- one whole parameter more
 abbrev pub further : List ℕ → Survey → Entry → Survey
 further l h e =
     record {
@@ -30,6 +31,7 @@ further l h e =
       precedences = h .precedences + once (e .name);
     }
 
+-- what the next parameter makes of a survey
 unfoldable pub surveyed : List ℕ → Survey → Survey
 surveyed l h = cond (entryAt l (h .place) .whole) (further l h (entryAt l (h .place))) (cutShort h (entryAt l (h .place)))
 
