@@ -35,3 +35,6 @@ pub mod Once
 pub mod Turns
 pub mod Told
 pub mod Losers
+pub mod Above
+pub mod Sought
+pub mod Given

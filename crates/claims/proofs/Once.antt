@@ -88,7 +88,7 @@ module _ (t es places f : List ℕ) (h : isAdded t es places f ≡ true) where
   events = eventsAdd records t (eventsIn es)
 
   -- from place 6 on totals grow by what the events add
-  from-six : (j : ℕ) → 6 ≤ j → j < place.figures → total g j ≡ total f j + events j
+  pub from-six : (j : ℕ) → 6 ≤ j → j < place.figures → total g j ≡ total f j + events j
   from-six j a b = by-events t es places f h j b (λ z. omega arith) (λ z. omega arith) (λ z. omega arith)
 
   row-grows : (o m : ℕ) → 6 ≤ o → o + m ≤ place.figures → sumTo (λ k. total g (o + k)) m ≡ sumTo (λ k. total f (o + k)) m + sumTo (λ k. events (o + k)) m

@@ -78,7 +78,7 @@ module _ (t es places : List ℕ) (carried : listNumber t es places ≡ 0) where
   unfolding listLengths
   table-right = halves lengths .0
 
-  answer-left : (k : ℕ) → k < length es / 16 → answerIn (listAnswers t es places) k ≡ answerRecord records (ran t es k) (eventIn es k)
+  pub answer-left : (k : ℕ) → k < length es / 16 → answerIn (listAnswers t es places) k ≡ answerRecord records (ran t es k) (eventIn es k)
   unfolding listAnswers eventsIn
   answer-left k m =
       ap (λ (b : Bool). answerIn (cond b (given t es (length es / 16)) places) k) lengths ∙ answer-at t es (length es / 16) k m

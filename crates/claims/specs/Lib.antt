@@ -8,3 +8,4 @@ pub mod NoService
 pub mod Named
 pub mod Instance
 pub mod Figures
+pub mod Printed

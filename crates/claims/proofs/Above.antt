@@ -1,0 +1,46 @@
+-- A call that comes for the circuit that it has reserved is above a holder there.
+use Prim.Native.Nat.{ℕ, _<_}
+use mathlib.Core.Path.{_≡_, ap, _∙_}
+use mathlib.Core.Logic.{inl, inr}
+use mathlib.Core.Bool.{Bool, true, _&&_, not}
+use mathlib.Core.List.{List}
+use lib.Dec.{eqb}
+use borrow.Author.Tests.{eq-eqb}
+use Rattle.octets.specs.Same.{same}
+use Rattle.octets.proofs.Tests.{and-both, by-so}
+use Rattle.octets.proofs.Sames.{same-refl}
+use Rattle.rules.specs.declared.circuit.Circuit.{Circuit}
+use Rattle.rules.specs.declared.event.Event.{Event}
+use Rattle.rules.specs.Circuit.{outranks, sameMark, unreserved, preemptable, takeable}
+use Rattle.rules.specs.Valid.{pairOk, ifPresent}
+use Rattle.rules.specs.Records.{circuitAt, records, circuits, checkNumber}
+use Rattle.rules.proofs.Faults.{valid-facts}
+use Rattle.rules.proofs.Sound.{present-so, own-above}
+use Rattle.rules.proofs.Check.{check-done}
+use Rattle.claims.specs.Chosen.{Lower}
+use Rattle.claims.specs.Printed.{ComesForIt, AlwaysAbove}
+use Rattle.claims.proofs.Plain.{lower-so}
+
+-- on a table that the check takes, the two parts of each circuit are in order
+pub in-order : (t : List ℕ) → checkNumber t ≡ 0 → (i : ℕ) → i < circuits t → pairOk (circuitAt t i) ≡ true
+unfolding records
+in-order t c = valid-facts records t (check-done t c .1) .pair
+
+module _ (e : Event) (y : Circuit) where
+  comes-alike : ComesForIt e y → sameMark (e .mark) (y .reservation .mark) ≡ true
+  comes-alike c =
+      let m = y .reservation .mark in
+      and-both (eqb (e .mark .level .0) (m .level .0)) (same (e .mark .domain) (m .domain)) (eq-eqb (e .mark .level .0) (m .level .0) (c .level))
+      (ap (λ (d : List ℕ). same d (m .domain)) (c .domain) ∙ same-refl (m .domain))
+
+  -- a holder that is preemptable and outranked makes the circuit lower, were the reservation not there
+  lower-holder : ifPresent (y .holder) (preemptable y && outranks (e .mark) (y .holder .mark)) ≡ true → y .holder .present ≡ true → Lower (e .mark) (unreserved y)
+  unfolding takeable
+  lower-holder h held =
+      let yields = preemptable y && outranks (e .mark) (y .holder .mark) in
+      lower-so (e .mark) (unreserved y) (and-both _ yields (ap (λ (b : Bool). not (not b && true)) held) (present-so (y .holder) yields h held))
+
+pub always-above : AlwaysAbove
+always-above t c i l e comes =
+    let y = circuitAt t i in
+    by-so (y .holder .present) (λ held. inr (lower-holder e y (own-above (e .mark) y (in-order t c i l) (comes .reserved .0) (comes-alike e y comes)) held)) inl

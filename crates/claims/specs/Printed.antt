@@ -1,0 +1,98 @@
+-- The customer says of number 28, which 01 prints as "set-up on its reservation, holder there not strictly lower in the same domain" (02, L6):
+-- "Trainers ask how to provoke 28 and nobody can: a valid table has each reservation strictly above its holder in the same domain, and L4 drops it
+-- with the mark. Prove that no input gives 28, and take it out of the table, the order and the callers."
+use Prim.Native.Nat.{ℕ, _/_, _<_}
+use mathlib.Core.Path.{_≡_}
+use mathlib.Core.Logic.{_⊎_, _≢_}
+use mathlib.Core.Bool.{Bool, true, false, _||_}
+use mathlib.Core.List.{List, [], _∷_, _++_}
+use lib.ListN.{length}
+use lib.Dec.{eqb}
+use Rattle.rules.specs.declared.circuit.Circuit.{Circuit}
+use Rattle.rules.specs.declared.event.Event.{Event}
+use Rattle.rules.specs.Circuit.{unreserved}
+use Rattle.rules.specs.Records.{circuitAt, circuits, checkNumber, answerNumber, answerIn}
+use Rattle.fields.specs.declared.precedence.Precedence.{Precedence}
+use Rattle.fields.specs.declared.reference.Reference.{Reference}
+use Rattle.fields.specs.Precedence as precedence
+use Rattle.fields.specs.Reference as reference
+use Rattle.optional.specs.Part.{parameterAt}
+use Rattle.optional.specs.Search.{find}
+use Rattle.optional.specs.Write as optional
+use Rattle.lamps.specs.Lamps.{lampMap}
+use Rattle.route.specs.Entries.{eventNumber, eventAnswer, listNumber, listAnswers}
+use Rattle.tally.specs.Places as place
+use Rattle.tally.specs.Entry.{figuresNumber, figuresAnswers, figuresTotals}
+use Rattle.claims.specs.Chosen.{Lower}
+use Rattle.claims.specs.Demand.{StandsIn}
+use Rattle.claims.specs.Figures.{total}
+
+-- ---- the holder below a reservation
+-- event e is of the call that has reserved circuit y, and comes with its reservation's level and domain
+pub record ComesForIt (e : Event) (y : Circuit) : Type 0 where
+  pub reserved : StandsIn (e .reference) (y .reservation)
+  pub level : e .mark .level .0 ≡ y .reservation .mark .level .0
+  pub domain : e .mark .domain ≡ y .reservation .mark .domain
+
+-- ALWAYS ABOVE: on any table that the check takes, nobody holds the circuit for which a reserving call comes, or the holder is strictly lower in
+-- the same domain and has a mark: without the reservation the circuit stands there under a strictly lower precedence
+abbrev pub AlwaysAbove : Type 0
+AlwaysAbove =
+    (t : List ℕ) → checkNumber t ≡ 0 → (i : ℕ) → i < circuits t → (e : Event) → ComesForIt e (circuitAt t i)
+    → (circuitAt t i .holder .present ≡ false) ⊎ Lower (e .mark) (unreserved (circuitAt t i))
+
+-- ---- the numbers that each entry gives
+abbrev pub among : ℕ → List ℕ → Bool  -- k is one of these numbers
+among k [] = false
+among k (j ∷ js) = eqb k j || among k js
+
+abbrev pub accepting : List ℕ  -- an event is carried out
+accepting = 1 ∷ 2 ∷ 3 ∷ 4 ∷ 5 ∷ 6 ∷ 7 ∷ 8 ∷ []
+
+abbrev pub reasons : List ℕ  -- a table is not valid
+reasons = 41 ∷ 42 ∷ 43 ∷ 44 ∷ 45 ∷ []
+
+-- an event of right length is answered by one of these, the refusals in the order in which they are tried
+abbrev pub answering : List ℕ
+answering = accepting ++ 22 ∷ reasons ++ 23 ∷ 24 ∷ 25 ∷ 26 ∷ 27 ∷ 30 ∷ 31 ∷ 32 ∷ []
+
+-- `Gives ks k`: k is given by an entry of which ks are all the numbers, for any octets and lengths
+pub data Gives : List ℕ → ℕ → Type 0 where
+  -- what the event entry gives back, and octet 0 of the answer that it writes, which at 20 is none
+  event : (t e place : List ℕ) → Gives (20 ∷ answering) (eventNumber t e place)
+  answer : (t e place : List ℕ) → eventNumber t e place ≢ 20 → Gives answering (answerNumber (eventAnswer t e place))
+  -- what the list entry gives back, and octet 0 of each answer of a list that is carried out
+  list : (t es places : List ℕ) → Gives (0 ∷ 20 ∷ []) (listNumber t es places)
+  answers :
+      (t es places : List ℕ) → listNumber t es places ≡ 0 → (k : ℕ) → k < length es / 16
+      → Gives answering (answerNumber (answerIn (listAnswers t es places) k))
+  -- the same of a list that is to be added to the figures f
+  figures : (t es places f : List ℕ) → Gives (0 ∷ 20 ∷ 60 ∷ []) (figuresNumber t es places f)
+  figured :
+      (t es places f : List ℕ) → figuresNumber t es places f ≡ 0 → (k : ℕ) → k < length es / 16
+      → Gives answering (answerNumber (answerIn (figuresAnswers t es places f) k))
+  -- the check, and the lamp map
+  check : (t : List ℕ) → Gives (0 ∷ 20 ∷ reasons) (checkNumber t)
+  lamps : (t : List ℕ) → Gives (0 ∷ 20 ∷ reasons) (lampMap t .number)
+  -- the fields, read from s and written into b
+  read-precedence : (s : List ℕ) → Gives (0 ∷ 20 ∷ 22 ∷ []) (precedence.readPrecedence s .number)
+  write-precedence : (b : List ℕ) (v : Precedence) → Gives (0 ∷ 20 ∷ 22 ∷ []) (precedence.writeNumber b v)
+  read-reference : (s : List ℕ) → Gives (0 ∷ 20 ∷ []) (reference.readReference s .number)
+  write-reference : (b : List ℕ) (v : Reference) → Gives (0 ∷ 20 ∷ 22 ∷ []) (reference.writeNumber b v)
+  -- the reader of an optional part s, by one step from a place or through all of it, and the writer of a list l
+  next-parameter : (s : List ℕ) (at : ℕ) → Gives (0 ∷ 61 ∷ 62 ∷ []) (parameterAt s at .number)
+  find-precedence : (s : List ℕ) → Gives (0 ∷ 61 ∷ 62 ∷ 63 ∷ 22 ∷ []) (find s .number)
+  write-optional : (b l : List ℕ) → Gives (0 ∷ 20 ∷ 22 ∷ 63 ∷ []) (optional.write b l .number)
+
+-- NUMBERS GIVEN: no entry gives any other number than those named here for it
+abbrev pub NumbersGiven : Type 0
+NumbersGiven = (ks : List ℕ) (k : ℕ) → Gives ks k → among k ks ≡ true
+
+-- NEVER 28: "no input gives 28", whichever the entry
+abbrev pub Never28 : Type 0
+Never28 = (ks : List ℕ) (k : ℕ) → Gives ks k → k ≢ 28
+
+-- so the day's figures never count it: its total stays as it was lent
+abbrev pub NeverCounted : Type 0
+NeverCounted =
+    (t es places f : List ℕ) → total (figuresTotals t es places f) (place.answered 28) ≡ total f (place.answered 28)
