@@ -55,6 +55,9 @@ module _ (x : ℕ → Circuit) (n : ℕ) (e : Event) where
   abbrev pub Open : ℕ → Type 0  -- circuit i is free or takeable
   Open i = (free (x i) ≡ true) ⊎ (takeable (e .mark) (x i) ≡ true)
 
+  abbrev pub AsReserved : ℕ → Bool  -- the call comes with the level and domain of the reservation on circuit i
+  AsReserved i = sameMark (e .mark) (x i .reservation .mark)
+
   abbrev pub HolderLower : ℕ → Bool  -- a holder of circuit i is strictly lower in the same domain
   HolderLower i = not (x i .holder .present) || outranks (e .mark) (x i .holder .mark)
 
@@ -66,7 +69,7 @@ module _ (x : ℕ → Circuit) (n : ℕ) (e : Event) where
     pub set-up : e .kind ≡ 1
     pub well-marked : marked e ≡ true
     pub there : i < n
-    pub given : ((Reserved i ≡ true) × (HolderLower i ≡ true)) ⊎ (Open i × Nowhere)
+    pub given : ((Reserved i ≡ true) × (AsReserved i ≡ true)) ⊎ (Open i × Nowhere)
 
   -- a look-ahead of a call that stands nowhere reserves circuit i
   pub record Reserves (i : ℕ) : Type 0 where
@@ -101,7 +104,7 @@ module _ (x : ℕ → Circuit) (n : ℕ) (e : Event) where
 
   -- 28 is tried where the call has reserved circuit i under the same mark, and a holder there is not lower
   abbrev pub NotLower : ℕ → Type 0
-  NotLower i = (Reserved i ≡ true) × (sameMark (e .mark) (x i .reservation .mark) ≡ true) × (HolderLower i ≡ false)
+  NotLower i = (Reserved i ≡ true) × (AsReserved i ≡ true) × (HolderLower i ≡ false)
 
   -- whatever P says of each refusal by the rules, and of 28 where it is tried
   module _ (P : Refusal → Type 0) (refused : (r : Refusal) → ForNoRecord r → P r) (not-lower : (i : ℕ) → i < n → NotLower i → P HolderNotLower) where
@@ -122,8 +125,8 @@ module _ (x : ℕ → Circuit) (n : ℕ) (e : Event) where
         (λ a.
         by-first Gives Reserved n _ _
         (λ i l h.
-        by-test Gives (sameMark (e .mark) (x i .reservation .mark)) _ (Refuse MarkDiffers)
-        (λ q. by-test Gives (HolderLower i) (Do Seize i) (Refuse HolderNotLower) (λ r. record { set-up = k; well-marked = m; there = l; given = inl (h, r) }) (λ r. not-lower i l (h, q, r)))
+        by-test Gives (AsReserved i) _ (Refuse MarkDiffers)
+        (λ q. by-test Gives (HolderLower i) (Do Seize i) (Refuse HolderNotLower) (λ r. record { set-up = k; well-marked = m; there = l; given = inl (h, q) }) (λ r. not-lower i l (h, q, r)))
         (λ q. refused MarkDiffers (refl, refl, refl)))
         (λ b. by-choice (Do Seize) (Refuse (blocked e)) (λ i l o. record { set-up = k; well-marked = m; there = l; given = inr (o, (a, b)) })
         (refused (blocked e) (blocked-for-none e))))
