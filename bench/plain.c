@@ -444,12 +444,9 @@ static uint8_t set_up(uint8_t *table, size_t circuits, const struct call *call, 
     int place = find(table, circuits, RESERVATION, call->reference);
     bool own = place != NONE;
     if (own) {
-        const uint8_t *circuit = table + place * NAUSTVRI_CIRCUIT_SIZE;
-        const uint8_t *holder = circuit + HOLDER, *reservation = circuit + RESERVATION;
+        const uint8_t *reservation = table + place * NAUSTVRI_CIRCUIT_SIZE + RESERVATION;
         if (reservation[LEVEL] != level_in(call->parameter) || !same_domain(reservation + DOMAIN, domain_in(call->parameter)))
             return refuse(answer, NAUSTVRI_RESERVATION_DIFFERS);
-        if (holder[FLAG] && (holder[LEVEL] <= level_in(call->parameter) || !same_domain(holder + DOMAIN, domain_in(call->parameter))))
-            return refuse(answer, NAUSTVRI_HOLDER_NOT_LOWER);
     } else {
         place = choose(table, circuits, call->parameter);
     }

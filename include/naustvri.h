@@ -28,7 +28,7 @@
 /* The version of this header: one number that grows, and its three parts. The major part grows where a host that ignores the change
  * would be wrong, the minor part with any other change that a host sees. */
 #define NAUSTVRI_VERSION_MAJOR 2
-#define NAUSTVRI_VERSION_MINOR 3
+#define NAUSTVRI_VERSION_MINOR 4
 #define NAUSTVRI_VERSION_PATCH 0
 #define NAUSTVRI_VERSION (NAUSTVRI_VERSION_MAJOR * 10000u + NAUSTVRI_VERSION_MINOR * 100u + NAUSTVRI_VERSION_PATCH)
 
@@ -67,7 +67,6 @@ extern "C" {
     next(NAUSTVRI_LOOK_AHEAD_BY_ROUTINE, 24, "a look-ahead by ROUTINE") \
     next(NAUSTVRI_ALREADY_PRESENT, 25, "set-up by a call that holds a circuit; look-ahead by one that holds or has reserved one") \
     next(NAUSTVRI_RESERVATION_DIFFERS, 26, "set-up whose level or domain is not its reservation's") \
-    next(NAUSTVRI_HOLDER_NOT_LOWER, 28, "set-up on its reservation, holder there not strictly lower in the same domain") \
     next(NAUSTVRI_NOT_PRESENT, 27, "release or no-service without a holder, cancel without a reservation") \
     next(NAUSTVRI_NO_CIRCUIT_ROUTINE, 30, "set-up by ROUTINE, no circuit free") \
     next(NAUSTVRI_NO_CIRCUIT_PRECEDENCE, 31, "set-up by a higher level, no circuit free or takeable") \

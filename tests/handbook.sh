@@ -36,17 +36,23 @@ for line in message place found listed written; do
     grep -q "^$line " "$out/shown-message" || die "no line that begins with $line in HANDBOOK.md"
 done
 
-# The fifth column's ways, each after the number in the second; a number that cannot be provoked has none.
+# The fifth column's ways, each after the number in the second.
 build provoke
 awk -F ' *[|] *' '
     /^[|] no[.] [|]/ { numbers = 1 }
     !NF { numbers = 0 }
-    numbers && $2 ~ /^[0-9]+$/ && $5 !~ /^it cannot be provoked/ {
+    numbers && $2 ~ /^[0-9]+$/ {
         ways = split($5, way, "; ")
         for (i = 1; i <= ways; i++) print $2, way[i]
     }' "$handbook" >"$out/ways"
 run_x86 "$out/provoke" >"$out/provoked"
 diff "$out/ways" "$out/provoked"
+
+# The round for training gives every number of that table but 0, 20 and 60 to 63, which answer no event, and 41 to 45 of a bad table.
+for octet in $(sed -n '/^## A round through/,/^## The day/s/^    answer \([0-9a-f]*\) .*/\1/p' "$handbook"); do printf '%d\n' "0x$octet"; done |
+    sort -u >"$out/round"
+sed 's/ .*//' "$out/ways" | grep -vxE '0|20|4[1-5]|6[0-3]' | sort -u >"$out/answering"
+diff "$out/answering" "$out/round"
 
 # Every link within the handbook leads to a heading.
 sed -n 's/^##* //p' "$handbook" | tr 'A-Z ' 'a-z-' | tr -cd 'a-z0-9\n-' | sort >"$out/headings"

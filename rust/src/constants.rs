@@ -3,7 +3,7 @@
 /// The major part of [`VERSION`]: it grows where a host that ignores the change would be wrong.
 pub const VERSION_MAJOR: u32 = 2;
 /// The minor part of [`VERSION`]: it grows with any other change that a host sees.
-pub const VERSION_MINOR: u32 = 3;
+pub const VERSION_MINOR: u32 = 4;
 /// The patch part of [`VERSION`].
 pub const VERSION_PATCH: u32 = 0;
 /// The version of this package, one number that grows; [`version()`](crate::version) is the archive's.

@@ -79,7 +79,6 @@ refusals! {
         LookAheadByRoutine = LOOK_AHEAD_BY_ROUTINE,
         AlreadyPresent = ALREADY_PRESENT,
         ReservationDiffers = RESERVATION_DIFFERS,
-        HolderNotLower = HOLDER_NOT_LOWER,
         NotPresent = NOT_PRESENT,
         NoCircuitRoutine = NO_CIRCUIT_ROUTINE,
         NoCircuitPrecedence = NO_CIRCUIT_PRECEDENCE,

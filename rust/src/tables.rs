@@ -57,7 +57,6 @@ table! {
     LOOK_AHEAD_BY_ROUTINE = 24, "a look-ahead by ROUTINE";
     ALREADY_PRESENT = 25, "set-up by a call that holds a circuit; look-ahead by one that holds or has reserved one";
     RESERVATION_DIFFERS = 26, "set-up whose level or domain is not its reservation's";
-    HOLDER_NOT_LOWER = 28, "set-up on its reservation, holder there not strictly lower in the same domain";
     NOT_PRESENT = 27, "release or no-service without a holder, cancel without a reservation";
     NO_CIRCUIT_ROUTINE = 30, "set-up by ROUTINE, no circuit free";
     NO_CIRCUIT_PRECEDENCE = 31, "set-up by a higher level, no circuit free or takeable";

@@ -42,7 +42,7 @@ fn enums_there_and_back() {
             Reason::ALL.len(),
             Refusal::ALL.len()
         ),
-        (5, 3, 6, 5, 15)
+        (5, 3, 6, 5, 14)
     );
     assert_eq!(Level::from_number(NO_PRECEDENCE), None);
 }

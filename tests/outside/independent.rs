@@ -1,4 +1,4 @@
-// Document 01 and document 02's L2 and L4 read a second time: an implementation that shares nothing with the library, in the words of the
+// Document 01 and document 02's L2, L4 and L6 read a second time: an implementation that shares nothing with the library, in the words of the
 // documents and with no eye on cost. Tables and events become plain values, the rules work on these, and the result becomes octets again.
 
 use std::cmp::Reverse;
@@ -423,8 +423,9 @@ fn set_up(circuits: &mut [Circuit], call: Call) -> Answer {
         if reserver.mark != call.mark {
             return refused(26);
         }
+        // Here 01 refuses by 28, which 02's L6 takes out because no input gives it. An input that does ends the test, and is said.
         if circuits[place].holder.map_or(false, |holder| !call.mark.above_holder(&holder)) {
-            return refused(28);
+            panic!("01 refuses this by 28, which no input was to give: {:?} on {:?}", call, circuits[place]);
         }
     }
     let place = match own.or_else(|| choose(circuits, &call.mark)) {

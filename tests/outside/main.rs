@@ -1,5 +1,5 @@
-// Holds the library, which a program serves over pipes, to an independent implementation of document 01 and of document 02's L1, L2, L4
-// and L5.
+// Holds the library, which a program serves over pipes, to an independent implementation of document 01 and of document 02's L1, L2, L4,
+// L5 and L6.
 //
 //   outside SEED rounds COUNT SERVER..      so many rounds
 //   outside SEED seconds COUNT SERVER..     rounds for so long, with a line now and then
@@ -20,6 +20,7 @@ mod strings;
 mod traffic;
 
 use std::process::exit;
+use std::thread::panicking;
 use std::time::{Duration, Instant};
 
 use case::{Application, Case};
@@ -120,7 +121,19 @@ fn parts(random: &mut Random, seed: u64, tally: &mut Tally, give: &mut dyn FnMut
     });
 }
 
+// Says the seed of a round that the independent implementation ends before its time.
+struct Seed(u64);
+
+impl Drop for Seed {
+    fn drop(&mut self) {
+        if panicking() {
+            println!("seed {}: the round ended before its time", self.0);
+        }
+    }
+}
+
 fn round(seed: u64, tally: &mut Tally, exchange: &mut Exchange) -> bool {
+    let _said = Seed(seed);
     let mut random = Random::new(seed);
     let (mut going, mut calls) = (true, 0);
     let mut give = |case: Case| {

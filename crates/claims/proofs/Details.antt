@@ -55,7 +55,7 @@ module _ (d : ℕ) where
     -- the rules refuse for no record
     by-rules : wellFormed e ≡ true → Detailed (decision x n e)
     by-rules w =
-        by-grounds (decision x n e) (grounds x n e Named (λ r f. f .0 ∙ sym (ap (λ (b : Bool). cond b d noDetail) (f .1))) (λ i l f. refl) w)
+        by-grounds (decision x n e) (grounds x n e Named (λ r f. f .0 ∙ sym (ap (λ (b : Bool). cond b d noDetail) (f .1))) w)
 
 -- of any event over a table of right length
 pub decided-detail : (t : List ℕ) (e : Event) → tableLength (length t) ≡ true → Detailed (checked t .detail) (outcomeOf records t e)

@@ -1,33 +1,25 @@
 -- Each entry gives the numbers that are named for it, and none is 28.
 use Prim.Native.Nat.{ℕ, _/_, _<_}
 use mathlib.Core.Path.{_≡_, refl, sym, ap, _∙_, subst}
-use mathlib.Core.Bool.{Bool, true, false, cond, _&&_, _||_, not, true≢false}
+use mathlib.Core.Bool.{Bool, true, false, cond, _||_, true≢false}
 use mathlib.Core.List.{List, _∷_}
 use native.Mathlib.Omega.{arith}
 use lib.ListN.{length}
 use lib.Dec.{eqb, leb}
-use Rattle.octets.proofs.Tests.{and-left, and-right, by-so, by-test}
+use Rattle.octets.proofs.Tests.{by-so, by-test}
 use Rattle.rules.specs.declared.circuit.Circuit.{Circuit}
 use Rattle.rules.specs.declared.event.Event.{Event}
 use Rattle.rules.specs.declared.outcome.Act.the-variants.{Seize, Reserve, Release, Cancel, Unmark}
 use Rattle.rules.specs.declared.outcome.Refusal.{Refusal}
-use Rattle.rules.specs.declared.outcome.Refusal.the-variants.{Malformed, BadRecord, NotAllowed, ByRoutine, AlreadyThere, MarkDiffers, HolderNotLower, NotThere, NoCircuitForRoutine, NoCircuit, NoCircuitToReserve}
+use Rattle.rules.specs.declared.outcome.Refusal.the-variants.{Malformed, BadRecord, NotAllowed, ByRoutine, AlreadyThere, MarkDiffers, NotThere, NoCircuitForRoutine, NoCircuit, NoCircuitToReserve}
 use Rattle.rules.specs.declared.outcome.Outcome.{Outcome}
 use Rattle.rules.specs.declared.outcome.Outcome.the-variants.{Refuse, Do, Clock}
-use Rattle.rules.specs.declared.verdict.Check.{Check}
 use Rattle.rules.specs.declared.verdict.Reason.{Reason}
 use Rattle.rules.specs.declared.verdict.Reason.the-variants.{FlagOrLevel, DigitOrPointCode, NotZero, NotAbove, Repeated}
-use Rattle.rules.specs.Event.{wellFormed}
-use Rattle.rules.specs.Circuit.{outranks, preemptable}
-use Rattle.rules.specs.Decision.{decision}
 use Rattle.rules.specs.Numbers.{reasonNumber, refusalNumber}
 use Rattle.rules.specs.Answer.{anothers, answerOf}
-use Rattle.rules.specs.Valid.{verdict, valid, pairOk}
 use Rattle.rules.specs.Run.{outcomeOf, answered}
 use Rattle.rules.specs.Records.{circuitAt, circuits, records, eventAt, eventIn, answerIn, answerNumber, checked, checkNumber}
-use Rattle.rules.proofs.Faults.{by-verdict, valid-facts}
-use Rattle.rules.proofs.Sound.{own-above, present-so}
-use Rattle.rules.proofs.Grounds.{NotLower, GroundsOr, grounds}
 use Rattle.rules.proofs.Check.{by-check}
 use Rattle.fields.specs.declared.precedence.Reading as precedence-reading
 use Rattle.fields.specs.declared.reference.Reading as reference-reading
@@ -56,82 +48,46 @@ use Rattle.claims.proofs.Refused.{lengths-right, number-then, returns-n
 use Rattle.claims.proofs.Passed.{answer-left}
 use Rattle.claims.proofs.Sought.{step-among, find-among}
 
+-- what holds of 41 to 45 holds of each reason's number
+by-reason : (P : ℕ → Type 0) → P 41 → P 42 → P 43 → P 44 → P 45 → (r : Reason) → P (reasonNumber r)
+by-reason P a b c d e FlagOrLevel = a
+by-reason P a b c d e DigitOrPointCode = b
+by-reason P a b c d e NotZero = c
+by-reason P a b c d e NotAbove = d
+by-reason P a b c d e Repeated = e
+
 -- ---- an event
-reason-among : (r : Reason) → among (reasonNumber r) answering ≡ true
-reason-among FlagOrLevel = refl
-reason-among DigitOrPointCode = refl
-reason-among NotZero = refl
-reason-among NotAbove = refl
-reason-among Repeated = refl
-
-abbrev Not28 : Refusal → Type 0
-Not28 r = eqb (refusalNumber r) 28 ≡ false
-
-refusal-among : (r : Refusal) → Not28 r → among (refusalNumber r) answering ≡ true
-refusal-among Malformed h = refl
-refusal-among (BadRecord r i) h = reason-among r
-refusal-among NotAllowed h = refl
-refusal-among ByRoutine h = refl
-refusal-among AlreadyThere h = refl
-refusal-among MarkDiffers h = refl
-refusal-among HolderNotLower h = absurd (true≢false h)
-refusal-among NotThere h = refl
-refusal-among NoCircuitForRoutine h = refl
-refusal-among NoCircuit h = refl
-refusal-among NoCircuitToReserve h = refl
+refusal-among : (r : Refusal) → among (refusalNumber r) answering ≡ true
+refusal-among Malformed = refl
+refusal-among (BadRecord r i) = by-reason (λ k. among k answering ≡ true) refl refl refl refl refl r
+refusal-among NotAllowed = refl
+refusal-among ByRoutine = refl
+refusal-among AlreadyThere = refl
+refusal-among MarkDiffers = refl
+refusal-among NotThere = refl
+refusal-among NoCircuitForRoutine = refl
+refusal-among NoCircuit = refl
+refusal-among NoCircuitToReserve = refl
 
 module _ (x : ℕ → Circuit) (n : ℕ) (e : Event) where
   abbrev Answers : ℕ → Type 0
   Answers k = among k answering ≡ true
 
-  outcome-among : (o : Outcome) → GroundsOr x n e Not28 o → Answers (answerOf x n e o .number)
+  outcome-among : (o : Outcome) → Answers (answerOf x n e o .number)
   unfolding answerOf
-  outcome-among (Refuse r) h = refusal-among r h
-  outcome-among (Do Seize i) h =
+  outcome-among (Refuse r) = refusal-among r
+  outcome-among (Do Seize i) =
       by-test Answers (x i .holder .present || anothers (e .reference) (x i .reservation) .present) 2 1 (λ q. refl) (λ q. refl)
-  outcome-among (Do Reserve i) h = by-test Answers (x i .reservation .present) 4 3 (λ q. refl) (λ q. refl)
-  outcome-among (Do Release i) h = refl
-  outcome-among (Do Cancel i) h = refl
-  outcome-among (Do Unmark i) h = refl
-  outcome-among Clock h = refl
-
-  -- where 28 is tried, the law of a valid table says that the holder is lower
-  never-tried : (i : ℕ) → pairOk (x i) ≡ true → NotLower x n e i → ⊥
-  never-tried i ok h =
-      let p = x i .holder in
-      let yields = preemptable (x i) && outranks (e .mark) (p .mark) in
-      let law = own-above (e .mark) (x i) ok (and-left (x i .reservation .present) _ (h .0)) (h .1) in
-      by-so (p .present)
-      (λ held.
-      true≢false
-      (sym (and-right (preemptable (x i)) (outranks (e .mark) (p .mark)) (present-so p yields law held))
-      ∙ sym (ap (λ (b : Bool). not b || outranks (e .mark) (p .mark)) held) ∙ h .2))
-      (λ none. true≢false (sym (ap (λ (b : Bool). not b || outranks (e .mark) (p .mark)) none) ∙ h .2))
-
--- over any table
-decided-not : (t : List ℕ) (e : Event) → GroundsOr (circuitAt t) (circuits t) e Not28 (outcomeOf records t e)
-unfolding outcomeOf records valid
-decided-not t e =
-    let P = GroundsOr (circuitAt t) (circuits t) e Not28 in
-    by-test P (wellFormed e) _ (Refuse Malformed)
-    (λ w.
-    by-verdict P (verdict records t) (decision (circuitAt t) (circuits t) e)
-    (λ v.
-    grounds (circuitAt t) (circuits t) e Not28 (λ r f. f .2) (λ i l h. absurd (never-tried (circuitAt t) (circuits t) e i (valid-facts records t v .pair i l) h)) w)
-    (λ r i f. reason-not r))
-    (λ w. refl)
-  where
-    reason-not : (r : Reason) → eqb (reasonNumber r) 28 ≡ false
-    reason-not FlagOrLevel = refl
-    reason-not DigitOrPointCode = refl
-    reason-not NotZero = refl
-    reason-not NotAbove = refl
-    reason-not Repeated = refl
+  outcome-among (Do Reserve i) = by-test Answers (x i .reservation .present) 4 3 (λ q. refl) (λ q. refl)
+  outcome-among (Do Release i) = refl
+  outcome-among (Do Cancel i) = refl
+  outcome-among (Do Unmark i) = refl
+  outcome-among Clock = refl
 
 answered-among : (t e : List ℕ) → among (answered records t e .number) answering ≡ true
 unfolding answered records
 answered-among t e =
-    outcome-among (circuitAt t) (circuits t) (eventAt e) (outcomeOf records t (eventAt e)) (decided-not t (eventAt e))
+    outcome-among (circuitAt t) (circuits t) (eventAt e) (outcomeOf records t (eventAt e))
 
 -- the second of two tests is enough
 or-second : (a b : Bool) → b ≡ true → a || b ≡ true
@@ -151,15 +107,10 @@ answers-among t es places carried k l =
 
 -- ---- the check
 check-among : (t : List ℕ) → among (checkNumber t) (0 ∷ 20 ∷ reasons) ≡ true
-check-among t =
-    by-check (λ (c : Check). among (c .number) (0 ∷ 20 ∷ reasons) ≡ true) t (λ l. refl) (λ l v. refl) (λ l r i v. of-reason r)
+check-among t = by-check (λ c. Among (c .number)) t (λ l. refl) (λ l v. refl) (λ l r i v. by-reason Among refl refl refl refl refl r)
   where
-    of-reason : (r : Reason) → among (reasonNumber r) (0 ∷ 20 ∷ reasons) ≡ true
-    of-reason FlagOrLevel = refl
-    of-reason DigitOrPointCode = refl
-    of-reason NotZero = refl
-    of-reason NotAbove = refl
-    of-reason Repeated = refl
+    Among : ℕ → Type 0
+    Among k = among k (0 ∷ 20 ∷ reasons) ≡ true
 
 -- ---- by one test, or by two, one after the other
 module _ {A : Type 0} (number : A → ℕ) (ks : List ℕ) where

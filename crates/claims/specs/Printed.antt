@@ -4,13 +4,18 @@
 use Prim.Native.Nat.{ℕ, _/_, _<_}
 use mathlib.Core.Path.{_≡_}
 use mathlib.Core.Logic.{_⊎_, _≢_}
-use mathlib.Core.Bool.{Bool, true, false, _||_}
+use mathlib.Core.Bool.{Bool, true, false, cond, _||_, not}
 use mathlib.Core.List.{List, [], _∷_, _++_}
 use lib.ListN.{length}
 use lib.Dec.{eqb}
 use Rattle.rules.specs.declared.circuit.Circuit.{Circuit}
 use Rattle.rules.specs.declared.event.Event.{Event}
-use Rattle.rules.specs.Circuit.{unreserved}
+use Rattle.rules.specs.declared.outcome.Act.the-variants.{Seize}
+use Rattle.rules.specs.declared.outcome.Refusal.the-variants.{MarkDiffers}
+use Rattle.rules.specs.declared.outcome.Outcome.{Outcome}
+use Rattle.rules.specs.declared.outcome.Outcome.the-variants.{Refuse, Do}
+use Rattle.rules.specs.Circuit.{outranks, sameMark, unreserved}
+use Rattle.rules.specs.Decision.{onReservation}
 use Rattle.rules.specs.Records.{circuitAt, circuits, checkNumber, answerNumber, answerIn}
 use Rattle.fields.specs.declared.precedence.Precedence.{Precedence}
 use Rattle.fields.specs.declared.reference.Reference.{Reference}
@@ -29,7 +34,7 @@ use Rattle.claims.specs.Figures.{total}
 
 -- ---- the holder below a reservation
 -- event e is of the call that has reserved circuit y, and comes with its reservation's level and domain
-pub record ComesForIt (e : Event) (y : Circuit) : Type 0 where
+pub record ComesAsReserved (e : Event) (y : Circuit) : Type 0 where
   pub reserved : StandsIn (e .reference) (y .reservation)
   pub level : e .mark .level .0 ≡ y .reservation .mark .level .0
   pub domain : e .mark .domain ≡ y .reservation .mark .domain
@@ -38,8 +43,29 @@ pub record ComesForIt (e : Event) (y : Circuit) : Type 0 where
 -- the same domain and has a mark: without the reservation the circuit stands there under a strictly lower precedence
 abbrev pub AlwaysAbove : Type 0
 AlwaysAbove =
-    (t : List ℕ) → checkNumber t ≡ 0 → (i : ℕ) → i < circuits t → (e : Event) → ComesForIt e (circuitAt t i)
+    (t : List ℕ) → checkNumber t ≡ 0 → (i : ℕ) → i < circuits t → (e : Event) → ComesAsReserved e (circuitAt t i)
     → (circuitAt t i .holder .present ≡ false) ⊎ Lower (e .mark) (unreserved (circuitAt t i))
+
+-- ---- the rule as 01 prints it
+pub data Decided : Type 0 where  -- what is decided: an outcome of the rules, or a refusal by a number that the rules no longer have
+  decides : Outcome → Decided
+  refuses : ℕ → Decided
+
+-- nobody holds circuit y, or the holder is strictly lower than the event's call in the same domain
+abbrev pub holderLower : Event → Circuit → Bool
+holderLower e y = not (y .holder .present) || outranks (e .mark) (y .holder .mark)
+
+-- 01's rule for a set-up on its own reservation, on circuit i, which is y, with the test of 28 where 01 has it, after that of 26. No contract cites it.
+abbrev pub printed : Event → Circuit → ℕ → Decided
+printed e y i =
+    cond (sameMark (e .mark) (y .reservation .mark)) (cond (holderLower e y) (decides (Do Seize i)) (refuses 28)) (decides (Refuse MarkDiffers))
+
+-- AS PRINTED: on any table that the check takes, the rule with the test of 28 decides what the rule without it decides, for each event and each circuit that
+-- the event's call has reserved. So no decision went with the test.
+abbrev pub AsPrinted : Type 0
+AsPrinted =
+    (t : List ℕ) → checkNumber t ≡ 0 → (i : ℕ) → i < circuits t → (e : Event) → StandsIn (e .reference) (circuitAt t i .reservation)
+    → printed e (circuitAt t i) i ≡ decides (onReservation e (circuitAt t i) i)
 
 -- ---- the numbers that each entry gives
 abbrev pub among : ℕ → List ℕ → Bool  -- k is one of these numbers

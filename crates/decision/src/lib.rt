@@ -1,19 +1,16 @@
 // This crate says what is decided of an event over a table: the first refusal that applies, else what is done, and on which circuit.
 use rules::circuit::Circuit;
 use rules::event::Event;
-use rules::mark::Mark;
 use rules::outcome::Act;
 use rules::outcome::Outcome;
 use rules::outcome::Refusal;
 use rules::parameter;
-use rules::part::Part;
 use rules::part::Reference;
 use rules::search::Found;
 use rules::verdict::Verdict;
 ghost use mathlib.Core.Path.{_≡_};
-ghost use mathlib.Core.Bool.{true, false, not, _||_};
+ghost use mathlib.Core.Bool.{false};
 ghost use Prim.Native.Nat.{_≤_, _<_};
-ghost use Rattle.rules.specs.Circuit.{outranks};
 ghost use Rattle.rules.specs.Decision.{onReservation, blocked, setUp, standsNowhere, lookAhead, onHolder, cancel};
 ghost use Rattle.rules.specs.Choice.{reservedBy};
 ghost use Rattle.rules.specs.Decision as rule;
@@ -22,26 +19,12 @@ ghost use Rattle.rules.specs.Run.{outcomeOf};
 ghost use Rattle.rules.specs.Records.{circuits, circuitAt, mostCircuits, records};
 ghost use Rattle.rules.specs.Ready.{Ready};
 
-// Tells whether nobody holds the circuit, or one whom the mark outranks.
-fn yields(holder: Part, by: Mark) -> bool
-    ensures { λ r. ⌜ r ≡ not (holder .present) || outranks by (holder .mark) ⌝ }
-{
-    if holder.present {
-        by.outranks(holder.mark)
-    } else {
-        true
-    }
-}
-
 // Decides a set-up on its own reservation, which stands on circuit i.
 fn on_reservation(e: Event, c: Circuit, i: usize) -> Outcome
     ensures { λ r. ⌜ r ≡ onReservation e c i ⌝ }
 {
     if !e.mark.equals(c.reservation.mark) {
         return Outcome::Refuse(Refusal::MarkDiffers);
-    }
-    if !yields(c.holder, e.mark) {
-        return Outcome::Refuse(Refusal::HolderNotLower);
     }
     Outcome::Do(Act::Seize, i)
 }

@@ -5,7 +5,7 @@ abbrev pub major : ℕ  -- the major part grows where a host that ignores the ch
 major = 2
 
 abbrev pub minor : ℕ  -- the minor part grows with each other change that a host sees
-minor = 3
+minor = 4
 
 abbrev pub patch : ℕ  -- the patch part grows with a change that no host sees
 patch = 0

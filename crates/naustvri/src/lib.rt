@@ -14,7 +14,7 @@ ghost use Rattle.naustvri.specs.Version.{version};
 // The version has these three parts, as in the header.
 const MAJOR: u32 = 2;
 
-const MINOR: u32 = 3;
+const MINOR: u32 = 4;
 
 const PATCH: u32 = 0;
 

@@ -2,7 +2,7 @@
 use Prim.Native.Nat.{ℕ, _<_}
 use mathlib.Core.Path.{_≡_, refl, sym, ap, _∙_}
 use mathlib.Core.Logic.{⊎-elim, _⊎_, inl, inr}
-use mathlib.Core.Bool.{Bool, true, false, cond, _&&_, _||_, not, true≢false}
+use mathlib.Core.Bool.{Bool, true, false, cond, _&&_, not, true≢false}
 use lib.Dec.{eqb, leb}
 use borrow.Author.Tests.{eqb-true}
 use Rattle.octets.proofs.Tests.{by-so, by-test}
@@ -13,12 +13,12 @@ use Rattle.rules.specs.declared.search.Found.the-variants.{At, Nothing}
 use Rattle.rules.specs.declared.outcome.Act.{Act}
 use Rattle.rules.specs.declared.outcome.Act.the-variants.{Seize, Reserve, Release, Cancel, Unmark}
 use Rattle.rules.specs.declared.outcome.Refusal.{Refusal}
-use Rattle.rules.specs.declared.outcome.Refusal.the-variants.{Malformed, NotAllowed, ByRoutine, AlreadyThere, MarkDiffers, HolderNotLower, NotThere, NoCircuitForRoutine, NoCircuit, NoCircuitToReserve}
+use Rattle.rules.specs.declared.outcome.Refusal.the-variants.{Malformed, NotAllowed, ByRoutine, AlreadyThere, MarkDiffers, NotThere, NoCircuitForRoutine, NoCircuit, NoCircuitToReserve}
 use Rattle.rules.specs.declared.outcome.Outcome.{Outcome}
 use Rattle.rules.specs.declared.outcome.Outcome.the-variants.{Refuse, Do, Clock}
 use Rattle.rules.specs.Fields.{allowed}
 use Rattle.rules.specs.Search.{found}
-use Rattle.rules.specs.Circuit.{isRoutine, outranks, sameMark, isOf, free, takeable}
+use Rattle.rules.specs.Circuit.{isRoutine, sameMark, isOf, free, takeable}
 use Rattle.rules.specs.Choice.{heldBy, reservedBy, choice}
 use Rattle.rules.specs.Event.{marked, wellFormed}
 use Rattle.rules.specs.Decision.{standsNowhere, onReservation, blocked, setUp, lookAhead, onHolder, cancel, decision}
@@ -36,14 +36,13 @@ by-kind : (P : Outcome → Type 0) (b v w : Bool) (p q : Outcome) → (b ≡ tru
 by-kind P true v w p q f g h = f refl h
 by-kind P false v w p q f g h = g h
 
--- a refusal by the rules is for no record: it is none of 41 to 45, and names none; and it is not 28
+-- a refusal by the rules is for no record: it is none of 41 to 45, and names none
 abbrev pub ForNoRecord : Refusal → Type 0
-ForNoRecord r =
-    (refusalDetail r ≡ noDetail) × (leb 41 (refusalNumber r) && leb (refusalNumber r) 45 ≡ false) × (eqb (refusalNumber r) 28 ≡ false)
+ForNoRecord r = (refusalDetail r ≡ noDetail) × (leb 41 (refusalNumber r) && leb (refusalNumber r) 45 ≡ false)
 
 blocked-for-none : (e : Event) → ForNoRecord (blocked e)
 blocked-for-none e =
-    by-test ForNoRecord (isRoutine (e .mark .level)) NoCircuitForRoutine NoCircuit (λ q. (refl, refl, refl)) (λ q. (refl, refl, refl))
+    by-test ForNoRecord (isRoutine (e .mark .level)) NoCircuitForRoutine NoCircuit (λ q. (refl, refl)) (λ q. (refl, refl))
 
 module _ (x : ℕ → Circuit) (n : ℕ) (e : Event) where
   abbrev pub Reserved : ℕ → Bool
@@ -57,9 +56,6 @@ module _ (x : ℕ → Circuit) (n : ℕ) (e : Event) where
 
   abbrev pub AsReserved : ℕ → Bool  -- the call comes with the level and domain of the reservation on circuit i
   AsReserved i = sameMark (e .mark) (x i .reservation .mark)
-
-  abbrev pub HolderLower : ℕ → Bool  -- a holder of circuit i is strictly lower in the same domain
-  HolderLower i = not (x i .holder .present) || outranks (e .mark) (x i .holder .mark)
 
   abbrev pub Nowhere : Type 0  -- the event's call holds no circuit and has reserved none
   Nowhere = ((j : ℕ) → j < n → Held j ≡ false) × ((j : ℕ) → j < n → Reserved j ≡ false)
@@ -102,12 +98,8 @@ module _ (x : ℕ → Circuit) (n : ℕ) (e : Event) where
       by-first (λ (b : Bool). b ≡ true → Nowhere) Held n (λ i. false) _ (λ i l h z. absurd (true≢false (sym z)))
       (λ a. by-first (λ (b : Bool). b ≡ true → Nowhere) Reserved n (λ i. false) true (λ i l h z. absurd (true≢false (sym z))) (λ b z. (a, b)))
 
-  -- 28 is tried where the call has reserved circuit i under the same mark, and a holder there is not lower
-  abbrev pub NotLower : ℕ → Type 0
-  NotLower i = (Reserved i ≡ true) × (AsReserved i ≡ true) × (HolderLower i ≡ false)
-
-  -- whatever P says of each refusal by the rules, and of 28 where it is tried
-  module _ (P : Refusal → Type 0) (refused : (r : Refusal) → ForNoRecord r → P r) (not-lower : (i : ℕ) → i < n → NotLower i → P HolderNotLower) where
+  -- whatever P says of each refusal by the rules
+  module _ (P : Refusal → Type 0) (refused : (r : Refusal) → ForNoRecord r → P r) where
     abbrev Gives : Outcome → Type 0
     Gives = GroundsOr P
 
@@ -121,13 +113,12 @@ module _ (x : ℕ → Circuit) (n : ℕ) (e : Event) where
     by-set-up : e .kind ≡ 1 → marked e ≡ true → Gives (setUp x n e)
     unfolding setUp heldBy reservedBy onReservation
     by-set-up k m =
-        by-first Gives Held n (λ i. Refuse AlreadyThere) _ (λ i l h. refused AlreadyThere (refl, refl, refl))
+        by-first Gives Held n (λ i. Refuse AlreadyThere) _ (λ i l h. refused AlreadyThere (refl, refl))
         (λ a.
         by-first Gives Reserved n _ _
         (λ i l h.
-        by-test Gives (AsReserved i) _ (Refuse MarkDiffers)
-        (λ q. by-test Gives (HolderLower i) (Do Seize i) (Refuse HolderNotLower) (λ r. record { set-up = k; well-marked = m; there = l; given = inl (h, q) }) (λ r. not-lower i l (h, q, r)))
-        (λ q. refused MarkDiffers (refl, refl, refl)))
+        by-test Gives (AsReserved i) (Do Seize i) (Refuse MarkDiffers) (λ q. record { set-up = k; well-marked = m; there = l; given = inl (h, q) })
+        (λ q. refused MarkDiffers (refl, refl)))
         (λ b. by-choice (Do Seize) (Refuse (blocked e)) (λ i l o. record { set-up = k; well-marked = m; there = l; given = inr (o, (a, b)) })
         (refused (blocked e) (blocked-for-none e))))
 
@@ -140,14 +131,14 @@ module _ (x : ℕ → Circuit) (n : ℕ) (e : Event) where
         (λ q.
         by-test Gives (standsNowhere x n (e .reference)) _ (Refuse AlreadyThere)
         (λ s. by-choice (Do Reserve) (Refuse NoCircuitToReserve) (λ i l o. record { look-ahead = k; well-marked = m; there = l; given = (o, nowhere s) })
-        (refused NoCircuitToReserve (refl, refl, refl)))
-        (λ s. refused AlreadyThere (refl, refl, refl)))
-        (λ q. refused ByRoutine (refl, refl, refl)))
-        (λ q. refused NotAllowed (refl, refl, refl))
+        (refused NoCircuitToReserve (refl, refl)))
+        (λ s. refused AlreadyThere (refl, refl)))
+        (λ q. refused ByRoutine (refl, refl)))
+        (λ q. refused NotAllowed (refl, refl))
 
     by-holder : (k : ℕ) (a : Act) → ((i : ℕ) → OnOwn k Held i → Gives (Do a i)) → e .kind ≡ k → Gives (onHolder x n a e)
     unfolding onHolder heldBy
-    by-holder k a g q = by-first Gives Held n (Do a) (Refuse NotThere) (λ i l h. g i (record { kind = q; there = l; own = h })) (λ b. refused NotThere (refl, refl, refl))
+    by-holder k a g q = by-first Gives Held n (Do a) (Refuse NotThere) (λ i l h. g i (record { kind = q; there = l; own = h })) (λ b. refused NotThere (refl, refl))
 
     pub grounds : wellFormed e ≡ true → Gives (decision x n e)
     unfolding wellFormed decision cancel reservedBy
@@ -156,7 +147,7 @@ module _ (x : ℕ → Circuit) (n : ℕ) (e : Event) where
         (by-kind Gives (eqb (e .kind) 2) (e .parameterless) _ (onHolder x n Release e) _ (λ k m. by-holder 2 Release (λ i g. g) (eqb-true (e .kind) 2 k))
         (by-kind Gives (eqb (e .kind) 3) (marked e) _ (lookAhead x n e) _ (λ k m. by-look-ahead (eqb-true (e .kind) 3 k) m)
         (by-kind Gives (eqb (e .kind) 4) (e .parameterless) _ (cancel x n e) _
-        (λ k m. by-first Gives Reserved n (Do Cancel) (Refuse NotThere) (λ i l h. record { kind = eqb-true (e .kind) 4 k; there = l; own = h }) (λ b. refused NotThere (refl, refl, refl)))
+        (λ k m. by-first Gives Reserved n (Do Cancel) (Refuse NotThere) (λ i l h. record { kind = eqb-true (e .kind) 4 k; there = l; own = h }) (λ b. refused NotThere (refl, refl)))
         (by-kind Gives (eqb (e .kind) 6) (e .parameterless) _ (onHolder x n Unmark e) Clock (λ k m. by-holder 6 Unmark (λ i g. g) (eqb-true (e .kind) 6 k))
         (λ w. by-so (eqb (e .kind) 5) (eqb-true (e .kind) 5) (λ k. absurd (true≢false (sym w ∙ ap (λ (b : Bool). cond b (e .parameterless && e .referenceless) false) k))))))))
 
@@ -165,5 +156,5 @@ unfolding outcomeOf
 decided L s e =
     let P = Grounds (L .view s) (L .count s) e in
     by-test P (wellFormed e) _ (Refuse Malformed)
-    (λ w. by-verdict P (verdict L s) (decision (L .view s) (L .count s) e) (λ v. grounds (L .view s) (L .count s) e (λ r. Unit {0}) (λ r f. tt) (λ i l f. tt) w) (λ r i f. tt))
+    (λ w. by-verdict P (verdict L s) (decision (L .view s) (L .count s) e) (λ v. grounds (L .view s) (L .count s) e (λ r. Unit {0}) (λ r f. tt) w) (λ r i f. tt))
     (λ w. tt)

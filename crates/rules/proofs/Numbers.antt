@@ -5,7 +5,7 @@ use native.Mathlib.Omega.{arith}
 use Rattle.rules.specs.declared.verdict.Reason.{Reason}
 use Rattle.rules.specs.declared.verdict.Reason.the-variants.{FlagOrLevel, DigitOrPointCode, NotZero, NotAbove, Repeated}
 use Rattle.rules.specs.declared.outcome.Refusal.{Refusal}
-use Rattle.rules.specs.declared.outcome.Refusal.the-variants.{Malformed, BadRecord, NotAllowed, ByRoutine, AlreadyThere, MarkDiffers, HolderNotLower, NotThere, NoCircuitForRoutine, NoCircuit, NoCircuitToReserve}
+use Rattle.rules.specs.declared.outcome.Refusal.the-variants.{Malformed, BadRecord, NotAllowed, ByRoutine, AlreadyThere, MarkDiffers, NotThere, NoCircuitForRoutine, NoCircuit, NoCircuitToReserve}
 use Rattle.rules.specs.Numbers.{reasonNumber, refusalNumber}
 
 pub reason-within : (r : Reason) → (41 ≤ reasonNumber r) × (reasonNumber r ≤ 45)
@@ -22,7 +22,6 @@ refusal-within NotAllowed = omega arith
 refusal-within ByRoutine = omega arith
 refusal-within AlreadyThere = omega arith
 refusal-within MarkDiffers = omega arith
-refusal-within HolderNotLower = omega arith
 refusal-within NotThere = omega arith
 refusal-within NoCircuitForRoutine = omega arith
 refusal-within NoCircuit = omega arith

@@ -50,8 +50,6 @@ pub const ALREADY_PRESENT: u8 = 25;
 
 pub const RESERVATION_DIFFERS: u8 = 26;
 
-pub const HOLDER_NOT_LOWER: u8 = 28;
-
 pub const NOT_PRESENT: u8 = 27;
 
 pub const NO_CIRCUIT_ROUTINE: u8 = 30;

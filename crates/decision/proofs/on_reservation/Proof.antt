@@ -1,4 +1,4 @@
--- Its mark, then the holder there.
+-- By its mark.
 use Rattle.rules.specs.Decision.{onReservation}
 use Rattle.octets.proofs.Tests.{ways}
 use borrow.Author.Needs.{needs}
@@ -15,17 +15,10 @@ unfolding onReservation
 returns-2 c =
     search ways depth 8
 
-returns-3 : tie.Need-returns-3
-unfolding onReservation
-returns-3 c =
-    search ways depth 8
-
 pub on-reservation-spec : {M : Type 1} → statement M
 on-reservation-spec =
     tie.close
     (tie.spec
     (λ c κs. search needs)
     returns
-    (λ c κs. search needs)
-    returns-2
-    returns-3)
+    returns-2)
