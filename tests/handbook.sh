@@ -1,7 +1,7 @@
 #!/bin/sh
 # handbook.sh [ARCHIVE]: applies the events in docs/HANDBOOK.md and compares the answers and circuits printed there with the library's; reads
-# the message and writes the list that it shows; provokes every number in each way that its table of the numbers names; compiles the C that it shows;
-# and follows its links. ARCHIVE: the library where it is built already.
+# the message and writes the list that it shows; provokes every number in each way that its table of the numbers names; finds in its round for
+# training every number that an event over a valid table is answered by; compiles the C that it shows; and follows its links. ARCHIVE: the library where it is built already.
 . "$(dirname "$0")/../scripts/machine.sh"
 need_compiler
 archive=${1:-$(library)}
@@ -49,7 +49,7 @@ run_x86 "$out/provoke" >"$out/provoked"
 diff "$out/ways" "$out/provoked"
 
 # The round for training gives every number of that table but 0, 20 and 60 to 63, which answer no event, and 41 to 45 of a bad table.
-for octet in $(sed -n '/^## A round through/,/^## The day/s/^    answer \([0-9a-f]*\) .*/\1/p' "$handbook"); do printf '%d\n' "0x$octet"; done |
+for octet in $(sed -n '/^## A round through/,/^## [^A]/s/^    answer \([0-9a-f]*\) .*/\1/p' "$handbook"); do printf '%d\n' "0x$octet"; done |
     sort -u >"$out/round"
 sed 's/ .*//' "$out/ways" | grep -vxE '0|20|4[1-5]|6[0-3]' | sort -u >"$out/answering"
 diff "$out/answering" "$out/round"

@@ -9,7 +9,7 @@ use crate::Reason;
 macro_rules! refusals {
     ({ $($before:ident = $of_before:ident,)* } BadRecord { $($after:ident = $of_after:ident,)* }) => {
         /// Why the library refuses, in the order in which refusals are tried; [`write_optional`](crate::write_optional) alone tries
-        /// [`PrecedenceTwice`](Refusal::PrecedenceTwice) after [`Malformed`](Refusal::Malformed). Later versions have more.
+        /// [`PrecedenceTwice`](Refusal::PrecedenceTwice) after [`Malformed`](Refusal::Malformed). Later versions may have others.
         #[derive(Clone, Copy, Debug, PartialEq, Eq, Hash)]
         #[non_exhaustive]
         pub enum Refusal {

@@ -413,6 +413,12 @@ fn choose(circuits: &[Circuit], mark: &Mark) -> Option<usize> {
     })
 }
 
+// 01's 28: "set-up on its reservation, holder there not strictly lower in the same domain". By 02's L6 no input gives it, so one that would get it ends
+// the test.
+pub fn holder_not_lower(circuit: &Circuit, call: &Call) -> bool {
+    circuit.holder.map_or(false, |holder| !call.mark.above_holder(&holder))
+}
+
 fn set_up(circuits: &mut [Circuit], call: Call) -> Answer {
     if circuits.iter().any(|c| c.held_by(call.reference)) {
         return refused(25);
@@ -423,8 +429,7 @@ fn set_up(circuits: &mut [Circuit], call: Call) -> Answer {
         if reserver.mark != call.mark {
             return refused(26);
         }
-        // Here 01 refuses by 28, which 02's L6 takes out because no input gives it. An input that does ends the test, and is said.
-        if circuits[place].holder.map_or(false, |holder| !call.mark.above_holder(&holder)) {
+        if holder_not_lower(&circuits[place], &call) {
             panic!("01 refuses this by 28, which no input was to give: {:?} on {:?}", call, circuits[place]);
         }
     }

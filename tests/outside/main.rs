@@ -121,10 +121,10 @@ fn parts(random: &mut Random, seed: u64, tally: &mut Tally, give: &mut dyn FnMut
     });
 }
 
-// Says the seed of a round that the independent implementation ends before its time.
-struct Seed(u64);
+// Says the seed of a round that a panic ends, so that the round can be played again.
+struct Watched(u64);
 
-impl Drop for Seed {
+impl Drop for Watched {
     fn drop(&mut self) {
         if panicking() {
             println!("seed {}: the round ended before its time", self.0);
@@ -133,7 +133,7 @@ impl Drop for Seed {
 }
 
 fn round(seed: u64, tally: &mut Tally, exchange: &mut Exchange) -> bool {
-    let _said = Seed(seed);
+    let _watched = Watched(seed);
     let mut random = Random::new(seed);
     let (mut going, mut calls) = (true, 0);
     let mut give = |case: Case| {

@@ -1,8 +1,8 @@
 // P1 to P12 and the paper's other examples, copied from document 01 by hand, the figures of its nine events, bad tables worked out by the
-// words of document 02's L2 and L4, events by those of L4, and optional parts and lists by those of L5: the independent implementation is held to
-// them first.
+// words of document 02's L2 and L4, events by those of L4, optional parts and lists by those of L5, and 01's test of 28, which L6 takes out: the
+// independent implementation is held to them first.
 
-use crate::independent::{Check, Precedence};
+use crate::independent::{Call, Check, Circuit, Holder, Mark, Precedence};
 use crate::optional::{Found, Step};
 use crate::{figures, independent, optional};
 
@@ -344,6 +344,20 @@ fn hold_lists() {
     }
 }
 
+// Both sides of 01's test of 28, of a PRIORITY call on its own reservation. Of these circuits the check takes those alone where it does not refuse.
+fn hold_twenty_eight() {
+    let (domain, another) = ([0; 5], [0, 0, 0, 0, 1]);
+    let call = Call { mark: Mark { level: 3, domain }, reference: [2, 0, 0, 1, 0] };
+    let refused = |holder| independent::holder_not_lower(&Circuit { holder, reservation: Some((call, 0)) }, &call);
+    let held = |mark| Some(Holder { mark, reference: [1, 0, 0, 1, 0] });
+    assert!(!refused(None));
+    assert!(!refused(held(Some(Mark { level: 4, domain }))));
+    assert!(refused(held(Some(Mark { level: 3, domain }))));
+    assert!(refused(held(Some(Mark { level: 2, domain }))));
+    assert!(refused(held(Some(Mark { level: 4, domain: another }))));
+    assert!(refused(held(None)));
+}
+
 pub fn hold() {
     let table = &mut [0; 64];
     for (event, wanted) in listing() {
@@ -352,6 +366,7 @@ pub fn hold() {
     hold_figures();
     hold_bad_tables();
     hold_no_service();
+    hold_twenty_eight();
     hold_parts();
     hold_steps();
     hold_lists();

@@ -1,8 +1,9 @@
 -- Each entry gives the numbers that are named for it, and none is 28.
 use Prim.Native.Nat.{ℕ, _/_, _<_}
 use mathlib.Core.Path.{_≡_, refl, sym, ap, _∙_, subst}
-use mathlib.Core.Bool.{Bool, true, false, cond, _||_, true≢false}
-use mathlib.Core.List.{List, _∷_}
+use mathlib.Core.Logic.{_≢_}
+use mathlib.Core.Bool.{Bool, true, false, cond, _||_, or-true, true≢false}
+use mathlib.Core.List.{List, [], _∷_}
 use native.Mathlib.Omega.{arith}
 use lib.ListN.{length}
 use lib.Dec.{eqb, leb}
@@ -32,21 +33,27 @@ use Rattle.optional.specs.List.{items, whole}
 use Rattle.optional.specs.Write as optional
 use Rattle.lamps.specs.declared.Lamps.{Lamps}
 use Rattle.lamps.specs.Lamps.{litMap, darkMap, lampMap}
-use Rattle.route.specs.Entries.{eventsIn, eventLengths, eventNumber, listLengths, listNumber, listAnswers}
+use Rattle.route.specs.Entries.{eventsIn, eventLengths, eventNumber, eventAnswer, listLengths, listNumber, listAnswers}
 use Rattle.route.proofs.Listed.{ran}
 use Rattle.tally.specs.Places as place
 use Rattle.tally.specs.Shares.{shares}
-use Rattle.tally.specs.Entry.{hasRoom, figuresLengths, figuresNumber, isAdded}
+use Rattle.tally.specs.Entry.{hasRoom, figuresLengths, figuresNumber, isAdded, figuresAnswers, figuresTotals}
 use Rattle.tally.proofs.Placed.{at-off, shares-answered}
 use Rattle.tally.proofs.Shared.{events-none, level-place}
-use Rattle.claims.specs.Printed.{among, reasons, answering, Gives, event, answer, list, answers, figures, figured, check, lamps, read-precedence, write-precedence, read-reference, write-reference, next-parameter, find-precedence, write-optional, NumbersGiven, Never28, NeverCounted}
+use Rattle.claims.specs.Printed.{among, answering, checking, Gives, event, answer, list, list-answers, figures, figures-answers, check, lamps, read-precedence, write-precedence, read-reference, write-reference, next-parameter, find-precedence, write-optional, NumbersGiven, Never28, NeverCounted}
 use Rattle.claims.proofs.Octets.{answer-number}
 use Rattle.claims.proofs.Added.{done-added, not-added, list-done, same-answers}
 use Rattle.claims.proofs.Once.{from-six}
 use Rattle.claims.specs.Figures.{total}
 use Rattle.claims.proofs.Refused.{lengths-right, number-then, returns-number}
 use Rattle.claims.proofs.Passed.{answer-left}
-use Rattle.claims.proofs.Sought.{step-among, find-among}
+use Rattle.claims.proofs.Sought.{step-given, find-given}
+
+abbrev Answers : ℕ → Type 0  -- k is a number of an answer
+Answers k = among k answering ≡ true
+
+abbrev Checks : ℕ → Type 0  -- k is a number of the check
+Checks k = among k checking ≡ true
 
 -- what holds of 41 to 45 holds of each reason's number
 by-reason : (P : ℕ → Type 0) → P 41 → P 42 → P 43 → P 44 → P 45 → (r : Reason) → P (reasonNumber r)
@@ -57,112 +64,113 @@ by-reason P a b c d e NotAbove = d
 by-reason P a b c d e Repeated = e
 
 -- ---- an event
-refusal-among : (r : Refusal) → among (refusalNumber r) answering ≡ true
-refusal-among Malformed = refl
-refusal-among (BadRecord r i) = by-reason (λ k. among k answering ≡ true) refl refl refl refl refl r
-refusal-among NotAllowed = refl
-refusal-among ByRoutine = refl
-refusal-among AlreadyThere = refl
-refusal-among MarkDiffers = refl
-refusal-among NotThere = refl
-refusal-among NoCircuitForRoutine = refl
-refusal-among NoCircuit = refl
-refusal-among NoCircuitToReserve = refl
+refusal-answers : (r : Refusal) → Answers (refusalNumber r)
+refusal-answers Malformed = refl
+refusal-answers (BadRecord r i) = by-reason Answers refl refl refl refl refl r
+refusal-answers NotAllowed = refl
+refusal-answers ByRoutine = refl
+refusal-answers AlreadyThere = refl
+refusal-answers MarkDiffers = refl
+refusal-answers NotThere = refl
+refusal-answers NoCircuitForRoutine = refl
+refusal-answers NoCircuit = refl
+refusal-answers NoCircuitToReserve = refl
 
-module _ (x : ℕ → Circuit) (n : ℕ) (e : Event) where
-  abbrev Answers : ℕ → Type 0
-  Answers k = among k answering ≡ true
+outcome-answers : (x : ℕ → Circuit) (n : ℕ) (e : Event) (o : Outcome) → Answers (answerOf x n e o .number)
+unfolding answerOf
+outcome-answers x n e (Refuse r) = refusal-answers r
+outcome-answers x n e (Do Seize i) =
+    by-test Answers (x i .holder .present || anothers (e .reference) (x i .reservation) .present) 2 1 (λ q. refl) (λ q. refl)
+outcome-answers x n e (Do Reserve i) = by-test Answers (x i .reservation .present) 4 3 (λ q. refl) (λ q. refl)
+outcome-answers x n e (Do Release i) = refl
+outcome-answers x n e (Do Cancel i) = refl
+outcome-answers x n e (Do Unmark i) = refl
+outcome-answers x n e Clock = refl
 
-  outcome-among : (o : Outcome) → Answers (answerOf x n e o .number)
-  unfolding answerOf
-  outcome-among (Refuse r) = refusal-among r
-  outcome-among (Do Seize i) =
-      by-test Answers (x i .holder .present || anothers (e .reference) (x i .reservation) .present) 2 1 (λ q. refl) (λ q. refl)
-  outcome-among (Do Reserve i) = by-test Answers (x i .reservation .present) 4 3 (λ q. refl) (λ q. refl)
-  outcome-among (Do Release i) = refl
-  outcome-among (Do Cancel i) = refl
-  outcome-among (Do Unmark i) = refl
-  outcome-among Clock = refl
-
-answered-among : (t e : List ℕ) → among (answered records t e .number) answering ≡ true
+answered-answers : (t e : List ℕ) → Answers (answered records t e .number)
 unfolding answered records
-answered-among t e =
-    outcome-among (circuitAt t) (circuits t) (eventAt e) (outcomeOf records t (eventAt e))
+answered-answers t e = outcome-answers (circuitAt t) (circuits t) (eventAt e) (outcomeOf records t (eventAt e))
 
--- the second of two tests is enough
-or-second : (a b : Bool) → b ≡ true → a || b ≡ true
-or-second true b h = refl
-or-second false b h = h
-
-event-among : (t e place : List ℕ) → among (eventNumber t e place) (20 ∷ answering) ≡ true
+event-given : (t e place : List ℕ) → among (eventNumber t e place) (20 ∷ answering) ≡ true
 unfolding eventNumber
-event-among t e place =
-    by-test (λ (k : ℕ). among k (20 ∷ answering) ≡ true) (eventLengths t e place) (answered records t e .number) 20
-    (λ q. or-second (eqb (answered records t e .number) 20) (among (answered records t e .number) answering) (answered-among t e)) (λ q. refl)
+event-given t e place =
+    let k = answered records t e .number in
+    by-test (λ (n : ℕ). among n (20 ∷ answering) ≡ true) (eventLengths t e place) k 20
+    (λ q. ap (λ (b : Bool). eqb k 20 || b) (answered-answers t e) ∙ or-true (eqb k 20)) (λ q. refl)
 
-answers-among : (t es places : List ℕ) → listNumber t es places ≡ 0 → (k : ℕ) → k < length es / 16 → among (answerNumber (answerIn (listAnswers t es places) k)) answering ≡ true
-answers-among t es places carried k l =
-    subst (λ (n : ℕ). among n answering ≡ true) (sym (ap answerNumber (answer-left t es places carried k l) ∙ answer-number (ran t es k) (eventIn es k)))
-    (answered-among (ran t es k) (eventIn es k))
+event-answers : (t e place : List ℕ) → eventNumber t e place ≢ 20 → Answers (answerNumber (eventAnswer t e place))
+event-answers t e place written =
+    subst Answers (sym (number-then t e place (lengths-right t e place written)) ∙ returns-number t e place written) (answered-answers t e)
+
+list-answered : (t es places : List ℕ) → listNumber t es places ≡ 0 → (k : ℕ) → k < length es / 16 → Answers (answerNumber (answerIn (listAnswers t es places) k))
+list-answered t es places carried k l =
+    let u = ran t es k in
+    let e = eventIn es k in
+    subst Answers (sym (ap answerNumber (answer-left t es places carried k l) ∙ answer-number u e)) (answered-answers u e)
+
+figures-answered : (t es places f : List ℕ) → figuresNumber t es places f ≡ 0 → (k : ℕ) → k < length es / 16 → Answers (answerNumber (answerIn (figuresAnswers t es places f) k))
+figures-answered t es places f done k l =
+    let h = done-added t es places f done in
+    subst (λ (written : List ℕ). Answers (answerNumber (answerIn written k))) (sym (same-answers t es places f h))
+    (list-answered t es places (list-done t es places f h) k l)
 
 -- ---- the check
-check-among : (t : List ℕ) → among (checkNumber t) (0 ∷ 20 ∷ reasons) ≡ true
-check-among t = by-check (λ c. Among (c .number)) t (λ l. refl) (λ l v. refl) (λ l r i v. by-reason Among refl refl refl refl refl r)
-  where
-    Among : ℕ → Type 0
-    Among k = among k (0 ∷ 20 ∷ reasons) ≡ true
+check-given : (t : List ℕ) → Checks (checkNumber t)
+check-given t = by-check (λ c. Checks (c .number)) t (λ l. refl) (λ l v. refl) (λ l r i v. by-reason Checks refl refl refl refl refl r)
 
--- ---- by one test, or by two, one after the other
+-- ---- what is given by two tests, one after the other
 module _ {A : Type 0} (number : A → ℕ) (ks : List ℕ) where
-  abbrev Among : A → Type 0
-  Among x = among (number x) ks ≡ true
+  abbrev Given : A → Type 0
+  Given x = among (number x) ks ≡ true
 
-  by-one : (a : Bool) (x z : A) → Among x → Among z → Among (cond a x z)
-  by-one true x z p r = p
-  by-one false x z p r = r
+  by-two : (a b : Bool) (x y z : A) → Given x → Given y → Given z → Given (cond a (cond b x y) z)
+  by-two a b x y z p q r = by-test Given a (cond b x y) z (λ h. by-test Given b x y (λ g. p) (λ g. q)) (λ h. r)
 
-  by-two : (a b : Bool) (x y z : A) → Among x → Among y → Among z → Among (cond a (cond b x y) z)
-  by-two a b x y z p q = by-one a (cond b x y) z (by-one b x y p q)
-
-pub numbers-given : NumbersGiven
-unfolding listNumber figuresNumber lampMap readPrecedence precedence.writeNumber readReference reference.writeNumber optional.write
-numbers-given _ _ (event t e place) = event-among t e place
-numbers-given _ _ (answer t e place written) =
-    subst (λ (n : ℕ). among n answering ≡ true) (sym (number-then t e place (lengths-right t e place written)) ∙ returns-number t e place written) (answered-among t e)
-numbers-given ks _ (list t es places) = by-one (λ (k : ℕ). k) ks (listLengths t es places) 0 20 refl refl
-numbers-given _ _ (answers t es places carried k l) = answers-among t es places carried k l
-numbers-given ks _ (figures t es places f) = by-two (λ (k : ℕ). k) ks (figuresLengths t es places f) (hasRoom f) 0 60 20 refl refl refl
-numbers-given _ _ (figured t es places f done k l) =
-    let h = done-added t es places f done in
-    subst (λ (written : List ℕ). among (answerNumber (answerIn written k)) answering ≡ true) (sym (same-answers t es places f h)) (answers-among t es places (list-done t es places f h) k l)
-numbers-given _ _ (check t) = check-among t
-numbers-given ks _ (lamps t) = by-one (λ (m : Lamps). m .number) ks (eqb (checkNumber t) 0) (litMap t) (darkMap (checked t)) refl (check-among t)
-numbers-given ks _ (read-precedence s) =
-    by-two (λ (r : precedence-reading.Reading). r .number) ks (eqb (length s) 6) (precedence.readable s) (record { number = 0; value = precedence.valuesOf s }) (precedence.refused 22) (precedence.refused 20) refl refl refl
-numbers-given ks _ (write-precedence b v) = by-two (λ (k : ℕ). k) ks (eqb (length b) 6) (precedence.writable v) 0 22 20 refl refl refl
-numbers-given ks _ (read-reference s) =
-    by-one (λ (r : reference-reading.Reading). r .number) ks (eqb (length s) 5) (record { number = 0; value = reference.valuesOf s }) (reference.refused 20) refl refl
-numbers-given ks _ (write-reference b v) = by-two (λ (k : ℕ). k) ks (eqb (length b) 5) (reference.writable v) 0 22 20 refl refl refl
-numbers-given _ _ (next-parameter s at) = step-among s at
-numbers-given _ _ (find-precedence s) = find-among s
-numbers-given ks _ (write-optional b l) =
+written-given : (b l : List ℕ) → among (optional.write b l .number) (0 ∷ 20 ∷ 22 ∷ 63 ∷ []) ≡ true
+unfolding optional.write
+written-given b l =
+    let is = items l in
+    let ks : List ℕ = 0 ∷ 20 ∷ 22 ∷ 63 ∷ [] in
     let number : Written → ℕ = λ w. w .number in
     let refused : ℕ → Written = λ k. record { number = k; end = 0 } in
-    let written : Written = record { number = 0; end = optional.room (items l) } in
-    let once = leb (optional.precedences (items l)) 1 in
-    let sound = optional.allSound (items l) in
-    by-two number ks (whole l) (leb (optional.room (items l)) (length b)) (cond sound (cond once written (refused 63)) (refused 22)) (refused 20) (refused 20)
-    (by-two number ks sound once written (refused 63) (refused 22) refl refl refl)
-    refl refl
+    let put : Written = record { number = 0; end = optional.room is } in
+    let once = leb (optional.precedences is) 1 in
+    let sound = optional.allSound is in
+    by-two number ks (whole l) (leb (optional.room is) (length b)) (cond sound (cond once put (refused 63)) (refused 22)) (refused 20) (refused 20)
+    (by-two number ks sound once put (refused 63) (refused 22) refl refl refl) refl refl
+
+pub numbers-given : NumbersGiven
+unfolding listNumber figuresNumber lampMap readPrecedence precedence.writeNumber readReference reference.writeNumber
+numbers-given _ _ (event t e place) = event-given t e place
+numbers-given _ _ (answer t e place written) = event-answers t e place written
+numbers-given ks _ (list t es places) = by-test (λ (k : ℕ). among k ks ≡ true) (listLengths t es places) 0 20 (λ q. refl) (λ q. refl)
+numbers-given _ _ (list-answers t es places carried k l) = list-answered t es places carried k l
+numbers-given ks _ (figures t es places f) = by-two (λ (k : ℕ). k) ks (figuresLengths t es places f) (hasRoom f) 0 60 20 refl refl refl
+numbers-given _ _ (figures-answers t es places f done k l) = figures-answered t es places f done k l
+numbers-given _ _ (check t) = check-given t
+numbers-given _ _ (lamps t) =
+    by-test (λ (m : Lamps). Checks (m .number)) (eqb (checkNumber t) 0) (litMap t) (darkMap (checked t)) (λ q. refl) (λ q. check-given t)
+numbers-given ks _ (read-precedence s) =
+    let values : precedence-reading.Reading = record { number = 0; value = precedence.valuesOf s } in
+    by-two (λ (r : precedence-reading.Reading). r .number) ks (eqb (length s) 6) (precedence.readable s) values (precedence.refused 22) (precedence.refused 20)
+    refl refl refl
+numbers-given ks _ (write-precedence b v) = by-two (λ (k : ℕ). k) ks (eqb (length b) 6) (precedence.writable v) 0 22 20 refl refl refl
+numbers-given ks _ (read-reference s) =
+    let values : reference-reading.Reading = record { number = 0; value = reference.valuesOf s } in
+    by-test (λ (r : reference-reading.Reading). among (r .number) ks ≡ true) (eqb (length s) 5) values (reference.refused 20) (λ q. refl) (λ q. refl)
+numbers-given ks _ (write-reference b v) = by-two (λ (k : ℕ). k) ks (eqb (length b) 5) (reference.writable v) 0 22 20 refl refl refl
+numbers-given _ _ (next-parameter s at) = step-given s at
+numbers-given _ _ (find-precedence s) = find-given s
+numbers-given _ _ (write-optional b l) = written-given b l
 
 -- ---- 28
 without-28 : (ks : List ℕ) (k : ℕ) → Gives ks k → among 28 ks ≡ false
 without-28 _ _ (event t e place) = refl
 without-28 _ _ (answer t e place written) = refl
 without-28 _ _ (list t es places) = refl
-without-28 _ _ (answers t es places carried k l) = refl
+without-28 _ _ (list-answers t es places carried k l) = refl
 without-28 _ _ (figures t es places f) = refl
-without-28 _ _ (figured t es places f done k l) = refl
+without-28 _ _ (figures-answers t es places f done k l) = refl
 without-28 _ _ (check t) = refl
 without-28 _ _ (lamps t) = refl
 without-28 _ _ (read-precedence s) = refl
@@ -173,20 +181,28 @@ without-28 _ _ (next-parameter s at) = refl
 without-28 _ _ (find-precedence s) = refl
 without-28 _ _ (write-optional b l) = refl
 
-pub never-28 : Never28
-never-28 ks k g h = true≢false (sym (numbers-given ks k g) ∙ ap (λ (n : ℕ). among n ks) h ∙ without-28 ks k g)
+-- a number of some is none that is not among them
+apart : (ks : List ℕ) (k n : ℕ) → among k ks ≡ true → among n ks ≡ false → k ≢ n
+apart ks k n in-them not-in h = true≢false (sym in-them ∙ ap (λ (m : ℕ). among m ks) h ∙ not-in)
 
--- so no event adds to its total
+pub never-28 : Never28
+never-28 ks k g = apart ks k _ (numbers-given ks k g) (without-28 ks k g)
+
+-- no event adds to the total of a number that is none of an answer
+module _ (t es places f : List ℕ) (k : ℕ) (few : k < 64) (none : among k answering ≡ false) where
+  adds-none : (u e : List ℕ) → shares (records .event e) (answered records u e) (place.answered k) ≡ 0
+  adds-none u e =
+      let n = answered records u e .number in
+      shares-answered (records .event e) (answered records u e) (level-place records u e) k
+      ∙ at-off n 1 k (apart answering n k (answered-answers u e) none)
+
+  total-stays : total (figuresTotals t es places f) (place.answered k) ≡ total f (place.answered k)
+  total-stays =
+      by-so (isAdded t es places f)
+      (λ h.
+      from-six t es places f h (place.answered k) (omega arith) (omega arith)
+      ∙ omega (arith, events-none records (place.answered k) adds-none (eventsIn es) t))
+      (λ h. ap (λ (g : List ℕ). total g (place.answered k)) (not-added t es places f h .2))
+
 pub never-counted : NeverCounted
-never-counted t es places f =
-    by-so (isAdded t es places f)
-    (λ h.
-    from-six t es places f h (place.answered 28) (omega arith) (omega arith)
-    ∙ omega (arith, events-none records (place.answered 28) never-there (eventsIn es) t))
-    (λ h. ap (λ (g : List ℕ). total g (place.answered 28)) (not-added t es places f h .2))
-  where
-    never-there : (u e : List ℕ) → shares (records .event e) (answered records u e) (place.answered 28) ≡ 0
-    never-there u e =
-        shares-answered (records .event e) (answered records u e) (level-place records u e) 28
-        ∙ at-off (answered records u e .number) 1 28
-        (λ h. true≢false (sym (answered-among u e) ∙ ap (λ (n : ℕ). among n answering) h))
+never-counted t es places f = total-stays t es places f 28 (omega arith) refl

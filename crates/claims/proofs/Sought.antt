@@ -2,7 +2,7 @@
 use Prim.Native.Nat.{ℕ, zero, suc, _+_}
 use mathlib.Core.Path.{_≡_, refl}
 use mathlib.Core.Bool.{true}
-use mathlib.Core.List.{List, [], _∷_}
+use mathlib.Core.List.{List, []}
 use lib.ListN.{length, getD}
 use lib.Dec.{eqb, leb, ltb}
 use Rattle.octets.proofs.Tests.{by-test}
@@ -12,15 +12,9 @@ use Rattle.optional.specs.declared.part.Parameter.{Parameter}
 use Rattle.optional.specs.declared.search.Search.{Search}
 use Rattle.optional.specs.Part.{endName, precedenceName, stopped, standing, parameterAt, isParameter, steps, walk, contents}
 use Rattle.optional.specs.Search.{begun, refused, ended, taken, noted, judged, find}
-use Rattle.claims.specs.Printed.{among}
+use Rattle.claims.specs.Printed.{among, stepping, finding}
 
-abbrev stepping : List ℕ  -- of one step
-stepping = 0 ∷ 61 ∷ 62 ∷ []
-
-abbrev finding : List ℕ  -- of a walk through all of the part
-finding = 0 ∷ 61 ∷ 62 ∷ 63 ∷ 22 ∷ []
-
--- whatever has each number of one step at least
+-- what holds of 0, 61 and 62 holds of the number of a step
 module _ (P : ℕ → Type 0) (goes : P 0) (cut : P 61) (ends : P 62) (s : List ℕ) where
   by-step : (at : ℕ) → P (parameterAt s at .number)
   unfolding parameterAt
@@ -35,7 +29,7 @@ module _ (P : ℕ → Type 0) (goes : P 0) (cut : P 61) (ends : P 62) (s : List 
       Has : Parameter → Type 0
       Has p = P (p .number)
 
-  -- whatever has 63 and 22 too
+  -- what holds of 63 and 22 too holds of the number of the search
   module _ (twice : P 63) (malformed : P 22) where
     abbrev Ends : Search → Type 0
     Ends h = P (h .result .number)
@@ -68,8 +62,8 @@ module _ (P : ℕ → Type 0) (goes : P 0) (cut : P 61) (ends : P 62) (s : List 
     unfolding find walk
     by-find = by-steps (suc (length s)) 0 begun goes
 
-pub step-among : (s : List ℕ) (at : ℕ) → among (parameterAt s at .number) stepping ≡ true
-step-among = by-step (λ k. among k stepping ≡ true) refl refl refl
+pub step-given : (s : List ℕ) (at : ℕ) → among (parameterAt s at .number) stepping ≡ true
+step-given = by-step (λ k. among k stepping ≡ true) refl refl refl
 
-pub find-among : (s : List ℕ) → among (find s .number) finding ≡ true
-find-among s = by-find (λ k. among k finding ≡ true) refl refl refl s refl refl
+pub find-given : (s : List ℕ) → among (find s .number) finding ≡ true
+find-given s = by-find (λ k. among k finding ≡ true) refl refl refl s refl refl

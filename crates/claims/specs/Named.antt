@@ -181,7 +181,7 @@ pub record PassedOn : Type 0 where
 
 -- ---- "41 to 45, in the order named, replace 21 in its place"
 -- TwentyOneGone: the check, the event entry, the list entry and the figures return no 21, and no answer that is written has it; a list that
--- is added to the figures has the list entry's answers, by SameAsList. The numbers of every entry are named in Printed, and 21 is none of them.
+-- is added to the figures has the list entry's answers, by SameAsList. By NumbersGiven (Printed) no other entry gives 21 either.
 pub record TwentyOneGone : Type 0 where
   pub check : (t : List ℕ) → checkNumber t ≢ 21
   pub event : (t e place : List ℕ) → eventNumber t e place ≢ 21

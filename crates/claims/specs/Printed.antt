@@ -16,7 +16,8 @@ use Rattle.rules.specs.declared.outcome.Outcome.{Outcome}
 use Rattle.rules.specs.declared.outcome.Outcome.the-variants.{Refuse, Do}
 use Rattle.rules.specs.Circuit.{outranks, sameMark, unreserved}
 use Rattle.rules.specs.Decision.{onReservation}
-use Rattle.rules.specs.Records.{circuitAt, circuits, checkNumber, answerNumber, answerIn}
+use Rattle.rules.specs.Numbers.{done}
+use Rattle.rules.specs.Records.{circuitAt, circuits, checkNumber, eventSize, answerNumber, answerIn}
 use Rattle.fields.specs.declared.precedence.Precedence.{Precedence}
 use Rattle.fields.specs.declared.reference.Reference.{Reference}
 use Rattle.fields.specs.Precedence as precedence
@@ -39,11 +40,11 @@ pub record ComesAsReserved (e : Event) (y : Circuit) : Type 0 where
   pub level : e .mark .level .0 ≡ y .reservation .mark .level .0
   pub domain : e .mark .domain ≡ y .reservation .mark .domain
 
--- ALWAYS ABOVE: on any table that the check takes, nobody holds the circuit for which a reserving call comes, or the holder is strictly lower in
--- the same domain and has a mark: without the reservation the circuit stands there under a strictly lower precedence
+-- ALWAYS ABOVE: on any table that the check takes, where a call comes as reserved for a circuit, nobody holds the circuit, or the holder is strictly
+-- lower in the same domain and has a mark: were the reservation not there, the circuit would stand under a strictly lower precedence
 abbrev pub AlwaysAbove : Type 0
 AlwaysAbove =
-    (t : List ℕ) → checkNumber t ≡ 0 → (i : ℕ) → i < circuits t → (e : Event) → ComesAsReserved e (circuitAt t i)
+    (t : List ℕ) → checkNumber t ≡ done → (i : ℕ) → i < circuits t → (e : Event) → ComesAsReserved e (circuitAt t i)
     → (circuitAt t i .holder .present ≡ false) ⊎ Lower (e .mark) (unreserved (circuitAt t i))
 
 -- ---- the rule as 01 prints it
@@ -60,11 +61,11 @@ abbrev pub printed : Event → Circuit → ℕ → Decided
 printed e y i =
     cond (sameMark (e .mark) (y .reservation .mark)) (cond (holderLower e y) (decides (Do Seize i)) (refuses 28)) (decides (Refuse MarkDiffers))
 
--- AS PRINTED: on any table that the check takes, the rule with the test of 28 decides what the rule without it decides, for each event and each circuit that
--- the event's call has reserved. So no decision went with the test.
+-- AS PRINTED: on any table that the check takes, the rule with the test of 28 decides what the rule without it decides, for each event and each
+-- circuit that the event's call has reserved. So no input had 28, and no decision went with its test.
 abbrev pub AsPrinted : Type 0
 AsPrinted =
-    (t : List ℕ) → checkNumber t ≡ 0 → (i : ℕ) → i < circuits t → (e : Event) → StandsIn (e .reference) (circuitAt t i .reservation)
+    (t : List ℕ) → checkNumber t ≡ done → (i : ℕ) → i < circuits t → (e : Event) → StandsIn (e .reference) (circuitAt t i .reservation)
     → printed e (circuitAt t i) i ≡ decides (onReservation e (circuitAt t i) i)
 
 -- ---- the numbers that each entry gives
@@ -82,43 +83,50 @@ reasons = 41 ∷ 42 ∷ 43 ∷ 44 ∷ 45 ∷ []
 abbrev pub answering : List ℕ
 answering = accepting ++ 22 ∷ reasons ++ 23 ∷ 24 ∷ 25 ∷ 26 ∷ 27 ∷ 30 ∷ 31 ∷ 32 ∷ []
 
--- `Gives ks k`: k is given by an entry of which ks are all the numbers, for any octets and lengths
+abbrev pub checking : List ℕ  -- the check and the lamp map
+checking = 0 ∷ 20 ∷ reasons
+
+abbrev pub stepping : List ℕ  -- one step through an optional part
+stepping = 0 ∷ 61 ∷ 62 ∷ []
+
+abbrev pub finding : List ℕ  -- the search for precedence through all of it
+finding = 0 ∷ 61 ∷ 62 ∷ 63 ∷ 22 ∷ []
+
+-- `Gives ks k`: an entry gives number k, for some octets of some lengths, and ks are the numbers that are named for it
 pub data Gives : List ℕ → ℕ → Type 0 where
-  -- what the event entry gives back, and octet 0 of the answer that it writes, which at 20 is none
+  -- what the event entry gives back, and octet 0 of the answer that it writes: at 20 it writes none
   event : (t e place : List ℕ) → Gives (20 ∷ answering) (eventNumber t e place)
   answer : (t e place : List ℕ) → eventNumber t e place ≢ 20 → Gives answering (answerNumber (eventAnswer t e place))
   -- what the list entry gives back, and octet 0 of each answer of a list that is carried out
   list : (t es places : List ℕ) → Gives (0 ∷ 20 ∷ []) (listNumber t es places)
-  answers :
-      (t es places : List ℕ) → listNumber t es places ≡ 0 → (k : ℕ) → k < length es / 16
+  list-answers :
+      (t es places : List ℕ) → listNumber t es places ≡ 0 → (k : ℕ) → k < length es / eventSize
       → Gives answering (answerNumber (answerIn (listAnswers t es places) k))
   -- the same of a list that is to be added to the figures f
   figures : (t es places f : List ℕ) → Gives (0 ∷ 20 ∷ 60 ∷ []) (figuresNumber t es places f)
-  figured :
-      (t es places f : List ℕ) → figuresNumber t es places f ≡ 0 → (k : ℕ) → k < length es / 16
+  figures-answers :
+      (t es places f : List ℕ) → figuresNumber t es places f ≡ 0 → (k : ℕ) → k < length es / eventSize
       → Gives answering (answerNumber (answerIn (figuresAnswers t es places f) k))
-  -- the check, and the lamp map
-  check : (t : List ℕ) → Gives (0 ∷ 20 ∷ reasons) (checkNumber t)
-  lamps : (t : List ℕ) → Gives (0 ∷ 20 ∷ reasons) (lampMap t .number)
+  check : (t : List ℕ) → Gives checking (checkNumber t)
+  lamps : (t : List ℕ) → Gives checking (lampMap t .number)
   -- the fields, read from s and written into b
   read-precedence : (s : List ℕ) → Gives (0 ∷ 20 ∷ 22 ∷ []) (precedence.readPrecedence s .number)
   write-precedence : (b : List ℕ) (v : Precedence) → Gives (0 ∷ 20 ∷ 22 ∷ []) (precedence.writeNumber b v)
   read-reference : (s : List ℕ) → Gives (0 ∷ 20 ∷ []) (reference.readReference s .number)
   write-reference : (b : List ℕ) (v : Reference) → Gives (0 ∷ 20 ∷ 22 ∷ []) (reference.writeNumber b v)
-  -- the reader of an optional part s, by one step from a place or through all of it, and the writer of a list l
-  next-parameter : (s : List ℕ) (at : ℕ) → Gives (0 ∷ 61 ∷ 62 ∷ []) (parameterAt s at .number)
-  find-precedence : (s : List ℕ) → Gives (0 ∷ 61 ∷ 62 ∷ 63 ∷ 22 ∷ []) (find s .number)
+  -- the reader of an optional part s, from a place in it or through all of it, and the writer of a list l into b
+  next-parameter : (s : List ℕ) (at : ℕ) → Gives stepping (parameterAt s at .number)
+  find-precedence : (s : List ℕ) → Gives finding (find s .number)
   write-optional : (b l : List ℕ) → Gives (0 ∷ 20 ∷ 22 ∷ 63 ∷ []) (optional.write b l .number)
 
--- NUMBERS GIVEN: no entry gives any other number than those named here for it
+-- NUMBERS GIVEN: no entry gives a number that is not named for it
 abbrev pub NumbersGiven : Type 0
 NumbersGiven = (ks : List ℕ) (k : ℕ) → Gives ks k → among k ks ≡ true
 
--- NEVER 28: "no input gives 28", whichever the entry
+-- NEVER 28: "no input gives 28", as the number of any entry or answer
 abbrev pub Never28 : Type 0
 Never28 = (ks : List ℕ) (k : ℕ) → Gives ks k → k ≢ 28
 
--- so the day's figures never count it: its total stays as it was lent
+-- so the day's figures never count 28: its total stays as it was lent
 abbrev pub NeverCounted : Type 0
-NeverCounted =
-    (t es places f : List ℕ) → total (figuresTotals t es places f) (place.answered 28) ≡ total f (place.answered 28)
+NeverCounted = (t es places f : List ℕ) → total (figuresTotals t es places f) (place.answered 28) ≡ total f (place.answered 28)

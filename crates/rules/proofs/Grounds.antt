@@ -54,7 +54,7 @@ module _ (x : ℕ → Circuit) (n : ℕ) (e : Event) where
   abbrev pub Open : ℕ → Type 0  -- circuit i is free or takeable
   Open i = (free (x i) ≡ true) ⊎ (takeable (e .mark) (x i) ≡ true)
 
-  abbrev pub AsReserved : ℕ → Bool  -- the call comes with the level and domain of the reservation on circuit i
+  abbrev AsReserved : ℕ → Bool  -- the call comes with the level and domain of the reservation on circuit i
   AsReserved i = sameMark (e .mark) (x i .reservation .mark)
 
   abbrev pub Nowhere : Type 0  -- the event's call holds no circuit and has reserved none

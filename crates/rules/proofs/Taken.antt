@@ -24,9 +24,8 @@ module _ (x : ℕ → Circuit) (n : ℕ) (e : Event) (i : ℕ) (order : pairOk (
   below : Seizes x n e i → preemptable (x i) && outranks (e .mark) (p .mark) ≡ true
   unfolding pairOk
   below s =
-      present-so p (preemptable (x i) && outranks (e .mark) (p .mark))
-      (⊎-elim (λ own. own-above (e .mark) (x i) order (and-left (x i .reservation .present) _ (own .0)) (own .1)) (λ new. reserved-pair e (x i) order (new .0)) (s .given))
-      held
+      ⊎-elim (λ own. own-above (e .mark) (x i) order (and-left (x i .reservation .present) _ (own .0)) (own .1) held)
+      (λ new. present-so p (preemptable (x i) && outranks (e .mark) (p .mark)) (reserved-pair e (x i) order (new .0)) held) (s .given)
 
   pub holder-yields : Seizes x n e i → Yields
   holder-yields s =

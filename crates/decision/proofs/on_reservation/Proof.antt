@@ -1,4 +1,4 @@
--- By its mark.
+-- By the mark that the call comes with.
 use Rattle.rules.specs.Decision.{onReservation}
 use Rattle.octets.proofs.Tests.{ways}
 use borrow.Author.Needs.{needs}
