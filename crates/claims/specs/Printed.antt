@@ -66,7 +66,7 @@ printed e y i =
 abbrev pub AsPrinted : Type 0
 AsPrinted =
     (t : List ℕ) → checkNumber t ≡ done → (i : ℕ) → i < circuits t → (e : Event) → StandsIn (e .reference) (circuitAt t i .reservation)
-    → printed e (circuitAt t i) i ≡ decides (onReservation e (circuitAt t i) i)
+    → printed e (circuitAt t i) i ≡ decides (onReservation e (circuitAt t i .reservation) i)
 
 -- ---- the numbers that each entry gives
 abbrev pub among : ℕ → List ℕ → Bool  -- k is one of these numbers

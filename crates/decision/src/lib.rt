@@ -1,10 +1,10 @@
 // This crate says what is decided of an event over a table: the first refusal that applies, else what is done, and on which circuit.
-use rules::circuit::Circuit;
 use rules::event::Event;
 use rules::outcome::Act;
 use rules::outcome::Outcome;
 use rules::outcome::Refusal;
 use rules::parameter;
+use rules::part::Part;
 use rules::part::Reference;
 use rules::search::Found;
 use rules::verdict::Verdict;
@@ -20,10 +20,10 @@ ghost use Rattle.rules.specs.Records.{circuits, circuitAt, mostCircuits, record
 ghost use Rattle.rules.specs.Ready.{Ready};
 
 // Decides a set-up on its own reservation, which stands on circuit i.
-fn on_reservation(e: Event, c: Circuit, i: usize) -> Outcome
-    ensures { λ r. ⌜ r ≡ onReservation e c i ⌝ }
+fn on_reservation(e: Event, reservation: Part, i: usize) -> Outcome
+    ensures { λ r. ⌜ r ≡ onReservation e reservation i ⌝ }
 {
-    if !e.mark.equals(c.reservation.mark) {
+    if !e.mark.equals(reservation.mark) {
         return Outcome::Refuse(Refusal::MarkDiffers);
     }
     Outcome::Do(Act::Seize, i)
@@ -56,7 +56,7 @@ fn set_up_reserver(t: &[u8], e: Event, i: usize) -> Outcome
     let reference = e.reference;
     match choice::held_by(t, reference) {
         Found::At(_) => Outcome::Refuse(Refusal::AlreadyThere),
-        Found::Nothing => on_reservation(e, table::circuit_at(t, i), i),
+        Found::Nothing => on_reservation(e, table::reservation_at(t, i), i),
     }
 }
 
@@ -150,11 +150,12 @@ pub fn outcome_of(t: &[u8], e: Event, verdict: Verdict) -> Outcome
     ensures outcome { λ r. ⌜ r ≡ outcomeOf records (now (t .entry)) e ⌝ }
     ensures ready { λ r. ⌜ Ready (now (t .entry)) r ⌝ }
 {
-    if !e.well_formed() {
-        return Outcome::Refuse(Refusal::Malformed);
-    }
-    match verdict {
-        Verdict::Valid => decision(t, e),
-        Verdict::Fault(r, i) => Outcome::Refuse(Refusal::BadRecord(r, i as u16)),
+    if e.well_formed() {
+        match verdict {
+            Verdict::Valid => decision(t, e),
+            Verdict::Fault(r, i) => Outcome::Refuse(Refusal::BadRecord(r, i as u16)),
+        }
+    } else {
+        Outcome::Refuse(Refusal::Malformed)
     }
 }

@@ -17,7 +17,7 @@ unfolding setUp
 returns-2 c =
     let start = c .before .before .before .before .before .before .before in
     c .on-reservation .ensures
-    ∙ at-read (onReservation (start .args .e)) (circuitAt (now (start .args .t))) _ _ (start .pre .1) refl (c .before .circuit-at .ensures)
+    ∙ at-read (onReservation (start .args .e)) (λ j. circuitAt (now (start .args .t)) j .reservation) _ _ (start .pre .1) refl (c .before .reservation-at .ensures)
     ∙ none _ _ (c .before .before .enum-told2 .given .1) (c .before .before .before .before .held-by .ensures)
 
 pub set-up-reserver-spec : {M : Type 1} → statement M
