@@ -41,7 +41,8 @@ extern "C" {
  * the first row and `next` every other. */
 
 /* The numbers given back, in the order in which refusals are tried. At 20 and 60 nothing is written. 61 to 63 are of the optional part alone, where
- * the place decides before the number; its writer tries 63 after 22. 41 to 45 say why a table is not valid, and come with the record that is bad. */
+ * the place decides before the number; its writer tries 63 after 22. 41 to 45 say why a table is not valid, and come with the record that is bad.
+ * 21 and 28 of earlier versions are given by no function any more, and stand for nothing else. */
 #define NAUSTVRI_NUMBERS(first, next) \
     first(NAUSTVRI_DONE, 0, "list carried out, table valid, or field or optional part read or written") \
     next(NAUSTVRI_SEIZED, 1, "the call holds the circuit, nobody lost one") \

@@ -1,7 +1,8 @@
 #!/bin/sh
-# handbook.sh [ARCHIVE]: applies the events in docs/HANDBOOK.md and compares the answers and circuits printed there with the library's; reads
-# the message and writes the list that it shows; provokes every number in each way that its table of the numbers names; finds in its round for
-# training every number that an event over a valid table is answered by; compiles the C that it shows; and follows its links. ARCHIVE: the library where it is built already.
+# handbook.sh [ARCHIVE]: applies the events in docs/HANDBOOK.md and compares the answers and circuits printed there with the library's;
+# reads the message and writes the list that it shows; provokes every number in each way that its table of the numbers names; finds in its
+# round for training every number that an event over a valid table is answered by; compiles the C that it shows; and follows its links.
+# ARCHIVE: the library where it is built already.
 . "$(dirname "$0")/../scripts/machine.sh"
 need_compiler
 archive=${1:-$(library)}
