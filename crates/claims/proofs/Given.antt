@@ -1,13 +1,14 @@
--- Each entry gives the numbers that are named for it, and none is 28.
-use Prim.Native.Nat.{ℕ, _/_, _<_}
+-- Each entry gives the numbers that are named for it; so it gives none that is not named.
+use Prim.Native.Nat.{ℕ, _-_, _/_, _<_}
 use mathlib.Core.Path.{_≡_, refl, sym, ap, _∙_, subst}
 use mathlib.Core.Logic.{_≢_}
-use mathlib.Core.Bool.{Bool, true, false, cond, _||_, or-true, true≢false}
+use mathlib.Core.Bool.{Bool, true, false, cond, _&&_, _||_, or-true, true≢false}
 use mathlib.Core.List.{List, [], _∷_}
 use native.Mathlib.Omega.{arith}
 use lib.ListN.{length}
-use lib.Dec.{eqb, leb}
-use Rattle.octets.proofs.Tests.{by-so, by-test}
+use lib.Dec.{eqb, leb, ltb}
+use borrow.Author.Tests.{eqb-true, leb-true, ltb-true}
+use Rattle.octets.proofs.Tests.{and-left, and-right, by-so, by-test}
 use Rattle.rules.specs.declared.circuit.Circuit.{Circuit}
 use Rattle.rules.specs.declared.event.Event.{Event}
 use Rattle.rules.specs.declared.outcome.Act.the-variants.{Seize, Reserve, Release, Cancel, Unmark}
@@ -163,46 +164,72 @@ numbers-given _ _ (next-parameter s at) = step-given s at
 numbers-given _ _ (find-precedence s) = find-given s
 numbers-given _ _ (write-optional b l) = written-given b l
 
--- ---- 28
-without-28 : (ks : List ℕ) (k : ℕ) → Gives ks k → among 28 ks ≡ false
-without-28 _ _ (event t e place) = refl
-without-28 _ _ (answer t e place written) = refl
-without-28 _ _ (list t es places) = refl
-without-28 _ _ (list-answers t es places carried k l) = refl
-without-28 _ _ (figures t es places f) = refl
-without-28 _ _ (figures-answers t es places f done k l) = refl
-without-28 _ _ (check t) = refl
-without-28 _ _ (lamps t) = refl
-without-28 _ _ (read-precedence s) = refl
-without-28 _ _ (write-precedence b v) = refl
-without-28 _ _ (read-reference s) = refl
-without-28 _ _ (write-reference b v) = refl
-without-28 _ _ (next-parameter s at) = refl
-without-28 _ _ (find-precedence s) = refl
-without-28 _ _ (write-optional b l) = refl
+-- ---- a number that is named for no entry
+abbrev every : List ℕ  -- all that are named
+every = 0 ∷ 20 ∷ 60 ∷ 61 ∷ 62 ∷ 63 ∷ answering
+
+abbrev within : List ℕ → Bool  -- these are named
+within [] = true
+within (k ∷ ks) = among k every && within ks
+
+unnamed : (n : ℕ) → among n every ≡ false → (ks : List ℕ) → within ks ≡ true → among n ks ≡ false
+unnamed n none [] h = refl
+unnamed n none (k ∷ ks) h =
+    by-so (eqb n k)
+    (λ q. absurd (true≢false (sym (and-left (among k every) (within ks) h) ∙ ap (λ (m : ℕ). among m every) (sym (eqb-true n k q)) ∙ none)))
+    (λ q. ap (λ (b : Bool). b || among n ks) q ∙ unnamed n none ks (and-right (among k every) (within ks) h))
+
+all-named : (ks : List ℕ) (k : ℕ) → Gives ks k → within ks ≡ true
+all-named _ _ (event t e place) = refl
+all-named _ _ (answer t e place written) = refl
+all-named _ _ (list t es places) = refl
+all-named _ _ (list-answers t es places carried k l) = refl
+all-named _ _ (figures t es places f) = refl
+all-named _ _ (figures-answers t es places f done k l) = refl
+all-named _ _ (check t) = refl
+all-named _ _ (lamps t) = refl
+all-named _ _ (read-precedence s) = refl
+all-named _ _ (write-precedence b v) = refl
+all-named _ _ (read-reference s) = refl
+all-named _ _ (write-reference b v) = refl
+all-named _ _ (next-parameter s at) = refl
+all-named _ _ (find-precedence s) = refl
+all-named _ _ (write-optional b l) = refl
 
 -- a number of some is none that is not among them
 apart : (ks : List ℕ) (k n : ℕ) → among k ks ≡ true → among n ks ≡ false → k ≢ n
 apart ks k n in-them not-in h = true≢false (sym in-them ∙ ap (λ (m : ℕ). among m ks) h ∙ not-in)
 
 pub never-28 : Never28
-never-28 ks k g = apart ks k _ (numbers-given ks k g) (without-28 ks k g)
+never-28 ks k g = apart ks k _ (numbers-given ks k g) (unnamed _ refl ks (all-named ks k g))
 
 -- no event adds to the total of a number that is none of an answer
-module _ (t es places f : List ℕ) (k : ℕ) (few : k < 64) (none : among k answering ≡ false) where
-  adds-none : (u e : List ℕ) → shares (records .event e) (answered records u e) (place.answered k) ≡ 0
-  adds-none u e =
-      let n = answered records u e .number in
-      shares-answered (records .event e) (answered records u e) (level-place records u e) k
-      ∙ at-off n 1 k (apart answering n k (answered-answers u e) none)
+module _ (t es places f : List ℕ) where
+  abbrev Stays : ℕ → Type 0  -- total j stays as it was lent
+  Stays j = total (figuresTotals t es places f) j ≡ total f j
 
-  total-stays : total (figuresTotals t es places f) (place.answered k) ≡ total f (place.answered k)
-  total-stays =
-      by-so (isAdded t es places f)
-      (λ h.
-      from-six t es places f h (place.answered k) (omega arith) (omega arith)
-      ∙ omega (arith, events-none records (place.answered k) adds-none (eventsIn es) t))
-      (λ h. ap (λ (g : List ℕ). total g (place.answered k)) (not-added t es places f h .2))
+  module _ (k : ℕ) (few : k < 64) (none : among k answering ≡ false) where
+    adds-none : (u e : List ℕ) → shares (records .event e) (answered records u e) (place.answered k) ≡ 0
+    adds-none u e =
+        let n = answered records u e .number in
+        shares-answered (records .event e) (answered records u e) (level-place records u e) k
+        ∙ at-off n 1 k (apart answering n k (answered-answers u e) none)
+
+    total-stays : Stays (place.answered k)
+    total-stays =
+        by-so (isAdded t es places f)
+        (λ h.
+        from-six t es places f h (place.answered k) (omega arith) (omega arith)
+        ∙ omega (arith, events-none records (place.answered k) adds-none (eventsIn es) t))
+        (λ h. ap (λ (g : List ℕ). total g (place.answered k)) (not-added t es places f h .2))
+
+  -- by the place of its total
+  place-stays : (j : ℕ) → leb 31 j ≡ true → ltb j place.figures ≡ true → among (j - 31) answering ≡ false → Stays j
+  place-stays j low high none =
+      let l = leb-true 31 j low in
+      let h = ltb-true j place.figures high in
+      let there : place.answered (j - 31) ≡ j = omega arith in
+      subst Stays there (total-stays (j - 31) (omega arith) none)
 
 pub never-counted : NeverCounted
-never-counted t es places f = total-stays t es places f 28 (omega arith) refl
+never-counted t es places f = place-stays t es places f _ refl refl refl
