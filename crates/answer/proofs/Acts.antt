@@ -5,7 +5,7 @@ use Rattle.rules.specs.declared.circuit.Circuit.{Circuit}
 use Rattle.rules.specs.declared.event.Event.{Event}
 use Rattle.rules.specs.declared.answer.Answer.{Answer}
 use Rattle.rules.specs.declared.outcome.Act.{Act}
-use Rattle.rules.specs.declared.outcome.Act.the-variants.{Seize, Reserve, Release, Cancel, Unmark}
+use Rattle.rules.specs.declared.outcome.Act.the-variants.{Seize, Reserve, Release, Cancel, Unmark, Answered}
 use Rattle.rules.specs.declared.outcome.Outcome.{Outcome}
 use Rattle.rules.specs.declared.outcome.Outcome.the-variants.{Do}
 use Rattle.rules.specs.Answer.{answerOf}
@@ -18,6 +18,7 @@ module _ (x : ℕ → Circuit) (n : ℕ) (e : Event) where
   alone Release i = refl
   alone Cancel i = refl
   alone Unmark i = refl
+  alone Answered i = refl
 
   -- o was found to be an act on a circuit, which is y
   pub by-act : (a : Act) (i : ℕ) {o : Outcome} {y : Circuit} {r : Answer} → o ≡ Do a i → y ≡ x i → r ≡ answerOf (λ _. y) 0 e (Do a i) → r ≡ answerOf x n e o

@@ -93,6 +93,7 @@ fn acted(e: Event, a: Act, i: u16, c: Circuit) -> Answer
         Act::Release => no_loser(number::RELEASED, i),
         Act::Cancel => no_loser(number::CANCELLED, i),
         Act::Unmark => may_lose(number::UNMARKED, i, c.reservation),
+        Act::Answered => no_loser(number::NOW_ANSWERED, i),
     }
 }
 

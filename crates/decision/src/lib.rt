@@ -139,6 +139,7 @@ fn decision(t: &[u8], e: Event) -> Outcome
         3 => look_ahead(t, e),
         4 => cancel(t, e),
         6 => on_holder(t, e, Act::Unmark),
+        7 => on_holder(t, e, Act::Answered),
         _ => Outcome::Clock,
     }
 }

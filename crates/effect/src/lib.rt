@@ -30,9 +30,10 @@ fn act(t: &mut [u8], e: Event, a: Act, i: usize)
     match a {
         Act::Seize => table::store(t, i, c),
         Act::Reserve => table::store_reservation(t, i, c.reservation, c.clock),
-        Act::Release => table::store_holder(t, i, c.holder),
+        Act::Release => table::store_holder(t, i, c.holder, c.ringing),
         Act::Cancel => table::store_reservation(t, i, c.reservation, c.clock),
         Act::Unmark => table::store(t, i, c),
+        Act::Answered => table::store_holder(t, i, c.holder, c.ringing),
     }
 }
 

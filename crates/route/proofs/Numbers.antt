@@ -6,7 +6,7 @@ use mathlib.Core.List.{List}
 use native.Mathlib.Omega.{arith}
 use Rattle.rules.specs.declared.circuit.Circuit.{Circuit}
 use Rattle.rules.specs.declared.event.Event.{Event}
-use Rattle.rules.specs.declared.outcome.Act.the-variants.{Seize, Reserve, Release, Cancel, Unmark}
+use Rattle.rules.specs.declared.outcome.Act.the-variants.{Seize, Reserve, Release, Cancel, Unmark, Answered}
 use Rattle.rules.specs.declared.outcome.Outcome.{Outcome}
 use Rattle.rules.specs.declared.outcome.Outcome.the-variants.{Refuse, Do, Clock}
 use Rattle.rules.specs.Answer.{anothers, answerOf}
@@ -28,6 +28,7 @@ module _ (x : ℕ → Circuit) (n : ℕ) (e : Event) where
   outcome-below (Do Release i) = omega arith
   outcome-below (Do Cancel i) = omega arith
   outcome-below (Do Unmark i) = omega arith
+  outcome-below (Do Answered i) = omega arith
   outcome-below Clock = omega arith
 
 pub number-below : {S : Type 0} (L : Layout S) (s : S) (e : List ℕ) → answered L s e .number < 64

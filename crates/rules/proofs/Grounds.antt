@@ -11,7 +11,7 @@ use Rattle.rules.specs.declared.event.Event.{Event}
 use Rattle.rules.specs.declared.search.Found.{Found}
 use Rattle.rules.specs.declared.search.Found.the-variants.{At, Nothing}
 use Rattle.rules.specs.declared.outcome.Act.{Act}
-use Rattle.rules.specs.declared.outcome.Act.the-variants.{Seize, Reserve, Release, Cancel, Unmark}
+use Rattle.rules.specs.declared.outcome.Act.the-variants.{Seize, Reserve, Release, Cancel, Unmark, Answered}
 use Rattle.rules.specs.declared.outcome.Refusal.{Refusal}
 use Rattle.rules.specs.declared.outcome.Refusal.the-variants.{Malformed, NotAllowed, ByRoutine, AlreadyThere, MarkDiffers, NotThere, NoCircuitForRoutine, NoCircuit, NoCircuitToReserve}
 use Rattle.rules.specs.declared.outcome.Outcome.{Outcome}
@@ -87,6 +87,7 @@ module _ (x : ℕ → Circuit) (n : ℕ) (e : Event) where
   GroundsOr P (Do Release i) = OnOwn 2 Held i
   GroundsOr P (Do Cancel i) = OnOwn 4 Reserved i
   GroundsOr P (Do Unmark i) = OnOwn 6 Held i
+  GroundsOr P (Do Answered i) = OnOwn 7 Held i
   GroundsOr P Clock = e .kind ≡ 5
 
   abbrev pub Grounds : Outcome → Type 0  -- a refusal needs none: it changes nothing
@@ -148,8 +149,9 @@ module _ (x : ℕ → Circuit) (n : ℕ) (e : Event) where
         (by-kind Gives (eqb (e .kind) 3) (marked e) _ (lookAhead x n e) _ (λ k m. by-look-ahead (eqb-true (e .kind) 3 k) m)
         (by-kind Gives (eqb (e .kind) 4) (e .parameterless) _ (cancel x n e) _
         (λ k m. by-first Gives Reserved n (Do Cancel) (Refuse NotThere) (λ i l h. record { kind = eqb-true (e .kind) 4 k; there = l; own = h }) (λ b. refused NotThere (refl, refl)))
-        (by-kind Gives (eqb (e .kind) 6) (e .parameterless) _ (onHolder x n Unmark e) Clock (λ k m. by-holder 6 Unmark (λ i g. g) (eqb-true (e .kind) 6 k))
-        (λ w. by-so (eqb (e .kind) 5) (eqb-true (e .kind) 5) (λ k. absurd (true≢false (sym w ∙ ap (λ (b : Bool). cond b (e .parameterless && e .referenceless) false) k))))))))
+        (by-kind Gives (eqb (e .kind) 6) (e .parameterless) _ (onHolder x n Unmark e) _ (λ k m. by-holder 6 Unmark (λ i g. g) (eqb-true (e .kind) 6 k))
+        (by-kind Gives (eqb (e .kind) 7) (e .parameterless) _ (onHolder x n Answered e) Clock (λ k m. by-holder 7 Answered (λ i g. g) (eqb-true (e .kind) 7 k))
+        (λ w. by-so (eqb (e .kind) 5) (eqb-true (e .kind) 5) (λ k. absurd (true≢false (sym w ∙ ap (λ (b : Bool). cond b (e .parameterless && e .referenceless) false) k)))))))))
 
 pub decided : {S : Type 0} (L : Layout S) (s : S) (e : Event) → Grounds (L .view s) (L .count s) e (outcomeOf L s e)
 unfolding outcomeOf

@@ -20,6 +20,8 @@ pub const CLOCK_TAKEN: u8 = 7;
 
 pub const UNMARKED: u8 = 8;
 
+pub const NOW_ANSWERED: u8 = 9;
+
 pub const WRONG_LENGTH: u8 = 20;
 
 // The octets of an optional part run out inside a parameter.

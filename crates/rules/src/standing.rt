@@ -29,11 +29,15 @@ impl Standing {
         if held { false } else { !reserved }
     }
 
-    // Tells whether a circuit may be lost by its holder, who stands under this level, if it is held: one under no precedence keeps it.
-    pub fn preemptable(held: bool, level: Level) -> bool
-        ensures { λ r. ⌜ r ≡ not held || levelOk (level .0) ⌝ }
+    // Tells whether a circuit may be lost by its holder, who stands under this level, if it is held: one under no precedence keeps it, and so
+    // does one that rings.
+    pub fn preemptable(held: bool, level: Level, ringing: bool) -> bool
+        ensures { λ r. ⌜ r ≡ not held || (levelOk (level .0) && not ringing) ⌝ }
     {
-        if held { level.known() } else { true }
+        if !held {
+            return true;
+        }
+        if level.known() { !ringing } else { false }
     }
 
     // Says how gladly a call takes a circuit under this level, if it is takeable: the level number counts first, then that there is no holder.

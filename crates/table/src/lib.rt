@@ -8,16 +8,16 @@ use rules::part::Part;
 use rules::part::Reference;
 use rules::standing::Standing;
 ghost use mathlib.Core.Path.{_≡_};
-ghost use mathlib.Core.Bool.{true, cond};
+ghost use mathlib.Core.Bool.{true, cond, _&&_};
 ghost use Prim.Native.Nat.{_+_, _*_, _/_, _<_, _≤_};
 ghost use lib.ListN.{length};
 ghost use mathlib.Core.List.{_++_};
 ghost use Rattle.octets.specs.Number.{octets};
-ghost use Rattle.octets.specs.Span.{put, zeros};
+ghost use Rattle.octets.specs.Span.{span, put, zeros};
 ghost use Rattle.rules.specs.Circuit.{sameMark, noPrecedence, isOf, free, preemptable, standing, overdue};
 ghost use Rattle.rules.specs.Standing.{standingOf};
 ghost use Rattle.rules.specs.Valid.{partNumbered};
-ghost use Rattle.rules.specs.Records.{circuitSize, circuits, partAt, circuitAt, holderOctets, reservationOctets, spareOctets, partOctets, putCircuit, flagsAt, blankAt, tableLength};
+ghost use Rattle.rules.specs.Records.{circuitSize, circuits, partAt, circuitAt, holderOctets, reservationOctets, spareOctets, partOctets, stateOctets, putCircuit, flagsAt, blankAt, tableLength};
 
 // A circuit has 32 octets.
 pub const CIRCUIT_SIZE: usize = 32;
@@ -35,12 +35,20 @@ const DOMAIN: usize = 2;
 
 const REFERENCE: usize = 7;
 
-// These say from which octet of a circuit on the reservation's part stands, then its clock, then the octets that belong to no part.
+// These say from which octet of a circuit on the reservation's part stands, then its clock.
 const RESERVATION: usize = 12;
 
 const CLOCK: usize = 24;
 
+// This octet of a circuit says whether the holder rings. It belongs to the holder's part.
+const RINGING: usize = 30;
+
+// These octets of a circuit belong to no part.
 const SPARE: usize = 28;
+
+const SPARE_SECOND: usize = 29;
+
+const SPARE_THIRD: usize = 31;
 
 // Tells whether a table of n octets is 1 to 256 whole circuits.
 pub fn right_length(n: usize) -> bool
@@ -128,13 +136,21 @@ pub fn free_at(t: &[u8], i: usize) -> bool
     Standing::free(held_at(t, i), reserved_at(t, i))
 }
 
-// Tells whether circuit i may be lost by its holder, if it is held, by its flag and the holder's level.
+// Tells whether the holder of circuit i rings.
+pub fn ringing_at(t: &[u8], i: usize) -> bool
+    requires { ⌜ i < circuits (now t) ⌝ }
+    ensures { λ r. ⌜ r ≡ circuitAt (now (t .entry)) i .ringing ⌝ }
+{
+    t[CIRCUIT_SIZE * i + RINGING] == 1
+}
+
+// Tells whether circuit i may be lost by its holder, if it is held, by its flag, the holder's level, and whether the holder rings.
 fn preemptable_at(t: &[u8], i: usize) -> bool
     requires { ⌜ i < circuits (now t) ⌝ }
     ensures { λ r. ⌜ r ≡ preemptable (circuitAt (now (t .entry)) i) ⌝ }
 {
     let level = Level::in_record(t[CIRCUIT_SIZE * i + LEVEL]);
-    Standing::preemptable(held_at(t, i), level)
+    Standing::preemptable(held_at(t, i), level, ringing_at(t, i))
 }
 
 // Tells whether the holder's mark of circuit i is that of a call under no precedence.
@@ -244,10 +260,12 @@ pub fn circuit_at(t: &[u8], i: usize) -> Circuit
     let holder = holder_at(t, i);
     let reservation = reservation_at(t, i);
     let clock = octets::read_four(t, CIRCUIT_SIZE * i + CLOCK);
+    let ringing = ringing_at(t, i);
     Circuit {
         holder,
         reservation,
         clock,
+        ringing,
     }
 }
 
@@ -274,13 +292,30 @@ fn part_octets(p: Part) -> [u8; PART_SIZE]
     ]
 }
 
-// Writes the holder's part of circuit i.
-pub fn store_holder(t: &mut [u8], i: usize, p: Part)
-    requires { ⌜ i < circuits (now t) ⌝ }
-    ensures { λ _. ⌜ now (t .exit) ≡ put (now (t .entry)) (circuitSize * i) (partOctets p) ⌝ }
+// Gives octets 30 and 31 of a circuit whose holder rings, or does not.
+fn state_octets(ringing: bool) -> [u8; 2]
+    ensures { λ r. ⌜ r ≡ stateOctets ringing ⌝ }
+{
+    if ringing { [1, 0] } else { [0, 0] }
+}
+
+// Writes the part that stands from octet `o` on.
+fn store_part(t: &mut [u8], o: usize, p: Part)
+    requires { ⌜ o + 12 ≤ length (now t) ⌝ }
+    ensures { λ _. ⌜ now (t .exit) ≡ put (now (t .entry)) o (partOctets p) ⌝ }
 {
     let v = part_octets(p);
-    octets::write(t, CIRCUIT_SIZE * i, &v);
+    octets::write(t, o, &v);
+}
+
+// Writes the holder's part of circuit i: octets 0 to 11, and octets 30 and 31, which say whether the holder rings.
+pub fn store_holder(t: &mut [u8], i: usize, p: Part, ringing: bool)
+    requires { ⌜ i < circuits (now t) ⌝ }
+    ensures { λ _. ⌜ now (t .exit) ≡ put (put (now (t .entry)) (circuitSize * i) (partOctets p)) (circuitSize * i + 30) (stateOctets ringing) ⌝ }
+{
+    let s = state_octets(ringing);
+    store_part(t, CIRCUIT_SIZE * i, p);
+    octets::write(t, CIRCUIT_SIZE * i + RINGING, &s);
 }
 
 // Writes the reservation's part of circuit i, with its clock.
@@ -289,9 +324,8 @@ pub fn store_reservation(t: &mut [u8], i: usize, p: Part, clock: u32)
     ensures { λ _. ⌜ now (t .exit) ≡ put (now (t .entry)) (circuitSize * i + 12) (partOctets p ++ octets 4 clock) ⌝ }
 {
     let o = CIRCUIT_SIZE * i + RESERVATION;
-    let v = part_octets(p);
     let s = octets::split_four(clock);
-    octets::write(t, o, &v);
+    store_part(t, o, p);
     octets::write(t, o + PART_SIZE, &s);
 }
 
@@ -300,31 +334,46 @@ pub fn store(t: &mut [u8], i: usize, c: Circuit)
     requires { ⌜ i < circuits (now t) ⌝ }
     ensures { λ _. ⌜ now (t .exit) ≡ putCircuit (now (t .entry)) i c ⌝ }
 {
-    let z = [0u8; 4];
-    store_holder(t, i, c.holder);
+    let z = [0u8; 2];
+    let s = state_octets(c.ringing);
+    store_part(t, CIRCUIT_SIZE * i, c.holder);
     store_reservation(t, i, c.reservation, c.clock);
     octets::write(t, CIRCUIT_SIZE * i + SPARE, &z);
+    octets::write(t, CIRCUIT_SIZE * i + RINGING, &s);
 }
 
-// Tells whether each flag of record i is 0 or 1.
+// Tells whether each flag of record i is 0 or 1, and the octet that says whether the holder rings, if there is one.
 pub fn flags(t: &[u8], i: usize) -> bool
     requires { ⌜ i < circuits (now t) ⌝ }
     ensures { λ r. ⌜ r ≡ flagsAt (now (t .entry)) i ⌝ }
 {
     let o = CIRCUIT_SIZE * i;
-    if t[o] <= 1 {
-        t[o + RESERVATION] <= 1
-    } else {
-        false
+    if 1 < t[o] {
+        return false;
     }
+    if 1 < t[o + RESERVATION] {
+        return false;
+    }
+    if t[o] == 1 { t[o + RINGING] <= 1 } else { true }
+}
+
+// Tells whether octets 0 to 11 of record i, the first of the holder's part, are zero.
+pub fn first_zero(t: &[u8], i: usize) -> bool
+    requires { ⌜ i < circuits (now t) ⌝ }
+    ensures { λ r. ⌜ r ≡ zeros (span (now (t .entry)) (circuitSize * i) 12) ⌝ }
+{
+    octets::zero_twelve(t, CIRCUIT_SIZE * i)
 }
 
 // Tells whether every octet of the holder's part of record i is zero.
-pub fn holder_zero(t: &[u8], i: usize) -> bool
+fn holder_zero(t: &[u8], i: usize) -> bool
     requires { ⌜ i < circuits (now t) ⌝ }
     ensures { λ r. ⌜ r ≡ zeros (holderOctets (now (t .entry)) i) ⌝ }
 {
-    octets::zero_twelve(t, CIRCUIT_SIZE * i)
+    if !first_zero(t, i) {
+        return false;
+    }
+    t[CIRCUIT_SIZE * i + RINGING] == 0
 }
 
 // Tells whether every octet of the reservation's part of record i, its clock's too, is zero.
@@ -339,6 +388,21 @@ pub fn reservation_zero(t: &[u8], i: usize) -> bool
 pub fn spare_zero(t: &[u8], i: usize) -> bool
     requires { ⌜ i < circuits (now t) ⌝ }
     ensures { λ r. ⌜ r ≡ zeros (spareOctets (now (t .entry)) i) ⌝ }
+{
+    let o = CIRCUIT_SIZE * i;
+    if t[o + SPARE] != 0 {
+        return false;
+    }
+    if t[o + SPARE_SECOND] != 0 {
+        return false;
+    }
+    t[o + SPARE_THIRD] == 0
+}
+
+// Tells whether octets 28 to 31 of record i are zero: those that belong to no part, and the one that says whether the holder rings.
+pub fn tail_zero(t: &[u8], i: usize) -> bool
+    requires { ⌜ i < circuits (now t) ⌝ }
+    ensures { λ r. ⌜ r ≡ zeros (span (now (t .entry)) (circuitSize * i + 28) 4) ⌝ }
 {
     octets::zero_four(t, CIRCUIT_SIZE * i + SPARE)
 }

@@ -11,7 +11,7 @@ use Rattle.octets.specs.Same.{same}
 use Rattle.octets.proofs.Tests.{and-left, and-right, by-so}
 use Rattle.rules.specs.declared.circuit.Circuit.{Circuit}
 use Rattle.rules.specs.declared.event.Event.{Event}
-use Rattle.rules.specs.declared.outcome.Act.the-variants.{Seize, Reserve, Release, Cancel, Unmark}
+use Rattle.rules.specs.declared.outcome.Act.the-variants.{Seize, Reserve, Release, Cancel, Unmark, Answered}
 use Rattle.rules.specs.declared.outcome.Outcome.{Outcome}
 use Rattle.rules.specs.declared.outcome.Outcome.the-variants.{Refuse, Do, Clock}
 use Rattle.rules.specs.Fields.{levelOk, lfbOk, decimal, parameterOk}
@@ -42,7 +42,7 @@ module _ (x : ℕ → Circuit) (n : ℕ) (e : Event) (pairs : (c : ℕ) → c < 
       record {
         taker-level = omega arith;
         loser-level = omega arith;
-        higher = ltb-true (m .level .0) (p .mark .level .0) (and-right (same (m .domain) (p .mark .domain)) (ltb (m .level .0) (p .mark .level .0)) (yields .1));
+        higher = ltb-true (m .level .0) (p .mark .level .0) (and-right (same (m .domain) (p .mark .domain)) (ltb (m .level .0) (p .mark .level .0)) (yields .2));
       }
 
   lost-taken : (o : Outcome) → Grounds x n e o → let a = answerOf x n e o in a .call .present ≡ true → Taken (e .mark .level .0) (a .call .mark .level .0)
@@ -53,6 +53,7 @@ module _ (x : ℕ → Circuit) (n : ℕ) (e : Event) (pairs : (c : ℕ) → c < 
   lost-taken (Do Release i) h q = absurd (true≢false (sym q))
   lost-taken (Do Cancel i) h q = absurd (true≢false (sym q))
   lost-taken (Do Unmark i) h q = absurd (true≢false (sym q))
+  lost-taken (Do Answered i) h q = absurd (true≢false (sym q))
   lost-taken Clock h q = absurd (true≢false (sym q))
 
 pub lost-levels : {S : Type 0} (L : Layout S) (s : S) (e : List ℕ) → let a = answered L s e in a .call .present ≡ true → Taken (L .event e .mark .level .0) (a .call .mark .level .0)

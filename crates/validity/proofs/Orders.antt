@@ -1,25 +1,25 @@
 -- To a record in order no reason applies.
 use Prim.Native.Nat.{ℕ, _+_, _*_, _<_}
 use mathlib.Core.Path.{_≡_, refl, sym, ap, _∙_}
-use mathlib.Core.Bool.{Bool, true, false, cond, _&&_, _||_, not, or-true}
-use mathlib.Core.List.{List, []}
+use mathlib.Core.Bool.{Bool, true, false, cond, _&&_, _||_, not, or-true, true≢false}
+use mathlib.Core.List.{List, [], _∷_}
 use native.Mathlib.Omega.{arith}
 use lib.ListN.{getD}
-use lib.Dec.{leb}
-use borrow.Author.Tests.{eqb-true, le-leb}
+use lib.Dec.{leb, eqb}
+use borrow.Author.Tests.{eqb-true, eq-eqb, le-leb, not-true}
 use Rattle.octets.specs.Span.{span, zeros}
-use Rattle.octets.proofs.Tests.{and-left, and-right, and-both, halves, by-so}
-use Rattle.octets.proofs.Spans.{agree-first, zeros-agree}
+use Rattle.octets.proofs.Tests.{and-left, and-right, and-both, halves, by-so, by-test}
+use Rattle.octets.proofs.Spans.{agree-first, zeros-agree, zeros-then}
 use Rattle.rules.specs.declared.part.Part.{Part}
 use Rattle.rules.specs.declared.circuit.Circuit.{Circuit}
 use Rattle.rules.specs.declared.verdict.Verdict.the-variants.{Valid}
 use Rattle.rules.specs.Fields.{levelOk}
 use Rattle.rules.specs.Circuit.{outranks, sameMark, noPrecedence, preemptable}
 use Rattle.rules.specs.Valid.{ifPresent, heldUnder, levelsOk, fieldsOk, pairOk, recordVerdict}
-use Rattle.rules.specs.Records.{circuitSize, partAt, circuitAt, flagsAt, zeroIfAbsent, blankAt, records}
+use Rattle.rules.specs.Records.{circuitSize, partAt, circuitAt, holderOctets, spareOctets, flagsAt, zeroIfAbsent, blankAt, records}
 use Rattle.rules.proofs.Sound.{if-present, present-so}
 use Rattle.rules.proofs.Faults.{valid-is, record-valid}
-use Rattle.validity.specs.Order.{fieldsFit, fit, partInOrder, above, inOrder}
+use Rattle.validity.specs.Order.{fieldsFit, fit, partInOrder, above, ringsInOrder, tailInOrder, inOrder}
 
 module _ (t : List ℕ) (o w : ℕ) where
   abbrev part : Part  -- the part of w octets from octet o on
@@ -61,13 +61,19 @@ held-under : (p : Part) → ifPresent p (levelOk (p .mark .level .0)) ≡ true �
 held-under p h =
     if-present p (heldUnder (p .mark)) (λ q. ap (λ (b : Bool). b || sameMark (p .mark) noPrecedence) (present-so p (levelOk (p .mark .level .0)) h q))
 
--- two parts under a precedence, of which the reservation is above the holder
-pair-above : (c : Circuit) → ifPresent (c .holder) (levelOk (c .holder .mark .level .0)) ≡ true → above c ≡ true → pairOk c ≡ true
+-- two parts under a precedence, of which the reservation is above the holder, who does not ring
+pair-above : (c : Circuit) → ifPresent (c .holder) (levelOk (c .holder .mark .level .0)) ≡ true → c .ringing ≡ false → above c ≡ true → pairOk c ≡ true
 unfolding pairOk
-pair-above c under h =
+pair-above c under still h =
     let over = outranks (c .reservation .mark) (c .holder .mark) in
+    let level = levelOk (c .holder .mark .level .0) in
     if-present (c .holder) (ifPresent (c .reservation) (preemptable c && over))
-    (λ q. if-present (c .reservation) (preemptable c && over) (λ r. and-both (preemptable c) over under (present-so (c .holder) over h q)))
+    (λ q.
+    if-present (c .reservation) (preemptable c && over)
+    (λ r.
+    and-both (preemptable c) over
+    (if-present (c .holder) (level && not (c .ringing)) (λ q. and-both level (not (c .ringing)) (present-so (c .holder) level under q) (ap not still)))
+    (present-so (c .holder) over h q)))
 
 -- where there is no reservation, the reasons ask nothing of the two parts together
 pair-absent : (c : Circuit) → c .reservation .present ≡ false → pairOk c ≡ true
@@ -78,28 +84,80 @@ module _ (t : List ℕ) (i : ℕ) where
   abbrev c : Circuit
   c = circuitAt t i
 
+  abbrev octet30 : ℕ
+  octet30 = getD t (circuitSize * i + 30) 0
+
+  -- what the reasons ask of the last four octets
+  record Tail : Type 0 where
+    small : leb octet30 1 ≡ true
+    nobody : c .holder .present ≡ false → eqb octet30 0 ≡ true
+    under : c .reservation .present ≡ true → c .ringing ≡ false
+    spare : zeros (spareOctets t i) ≡ true
+
+  tail-is : tailInOrder t i ≡ true → Tail
+  tail-is = by-test (λ (b : Bool). b ≡ true → Tail) (zeros (span t (circuitSize * i + 28) 4)) true (ringsInOrder t i) still rings
+    where
+      still : zeros (span t (circuitSize * i + 28) 4) ≡ true → true ≡ true → Tail
+      still z q =
+          let zero = zeros-agree t (circuitSize * i + 28) 4 z in
+          let last : getD t (circuitSize * i + 31) 0 ≡ 0 = ap (λ (k : ℕ). getD t k 0) (omega arith) ∙ zero 3 (omega arith) in
+          let two : getD t (circuitSize * i + 29) 0 ≡ 0 = ap (λ (k : ℕ). getD t k 0) (omega arith) ∙ zero 1 (omega arith) in
+          let one : getD t (circuitSize * i + 28) 0 ≡ 0 = ap (λ (k : ℕ). getD t k 0) (omega arith) ∙ zero 0 (omega arith) in
+          let none : octet30 ≡ 0 = ap (λ (k : ℕ). getD t k 0) (omega arith) ∙ zero 2 (omega arith) in
+          record {
+            small = le-leb octet30 1 (omega arith);
+            nobody = λ e. eq-eqb octet30 0 none;
+            under = λ e. ap (λ (k : ℕ). eqb k 1) none;
+            spare = λ d. zeros (one d ∷ two d ∷ last d ∷ []);
+          }
+
+      rings : zeros (span t (circuitSize * i + 28) 4) ≡ false → ringsInOrder t i ≡ true → Tail
+      rings z q =
+          let first = halves q in
+          let second = halves (first .1) in
+          let third = halves (second .1) in
+          let one = eqb-true octet30 1 (first .0) in
+          record {
+            small = le-leb octet30 1 (omega arith);
+            nobody = λ e. absurd (true≢false (sym (third .0) ∙ e));
+            under = λ e. absurd (true≢false (sym e ∙ not-true (c .reservation .present) (third .1)));
+            spare = second .0;
+          }
+
   -- the reservation's part by itself, and the two together
-  both-parts : (z : Bool) → ifPresent (c .holder) (levelOk (c .holder .mark .level .0)) ≡ true → cond (c .reservation .present) (fit (c .reservation) && above c) z ≡ true → (cond (c .reservation .present) (fit (c .reservation)) z ≡ true) × (pairOk c ≡ true)
-  both-parts z under h = by-so (c .reservation .present) there absent
+  both-parts : (z : Bool) → ifPresent (c .holder) (levelOk (c .holder .mark .level .0)) ≡ true → (c .reservation .present ≡ true → c .ringing ≡ false) → cond (c .reservation .present) (fit (c .reservation) && above c) z ≡ true → (cond (c .reservation .present) (fit (c .reservation)) z ≡ true) × (pairOk c ≡ true)
+  both-parts z under still h = by-so (c .reservation .present) there absent
     where
       by-flag : (x : Bool) {b : Bool} → c .reservation .present ≡ b → cond (c .reservation .present) x z ≡ cond b x z
       by-flag x e = ap (λ (b : Bool). cond b x z) e
 
       there : c .reservation .present ≡ true → (cond (c .reservation .present) (fit (c .reservation)) z ≡ true) × (pairOk c ≡ true)
-      there e = let both = halves (sym (by-flag (fit (c .reservation) && above c) e) ∙ h) in (by-flag (fit (c .reservation)) e ∙ both .0, pair-above c under (both .1))
+      there e = let both = halves (sym (by-flag (fit (c .reservation) && above c) e) ∙ h) in (by-flag (fit (c .reservation)) e ∙ both .0, pair-above c under (still e) (both .1))
 
       absent : c .reservation .present ≡ false → (cond (c .reservation .present) (fit (c .reservation)) z ≡ true) × (pairOk c ≡ true)
       absent e = (by-flag (fit (c .reservation)) e ∙ sym (by-flag (fit (c .reservation) && above c) e) ∙ h, pair-absent c e)
+
+  -- the whole of the holder's part is zero where there is no holder
+  holder-zero : Tail → zeroIfAbsent (c .holder) (span t (circuitSize * i) 12) ≡ true → zeroIfAbsent (c .holder) (holderOctets t i) ≡ true
+  holder-zero tail h =
+      by-so (c .holder .present) (λ e. ap (λ (b : Bool). cond b true (zeros (holderOctets t i))) e)
+      (λ e.
+      let first : zeros (span t (circuitSize * i) 12) ≡ true = sym (ap (λ (b : Bool). cond b true (zeros (span t (circuitSize * i) 12))) e) ∙ h in
+      ap (λ (b : Bool). cond b true (zeros (holderOctets t i))) e
+      ∙ zeros-then (span t (circuitSize * i) 12) octet30
+      ∙ and-both _ _ first (tail .nobody e))
 
   pub in-order : inOrder t i ≡ true → recordVerdict records t i ≡ Valid
   unfolding inOrder records levelsOk fieldsOk flagsAt blankAt
   in-order h =
       let first = halves h in
       let second = halves (first .1) in
+      let tail = tail-is (second .0) in
       let a = apart t (circuitSize * i) 12 (omega arith) (first .0) in
-      let last = both-parts _ (a .1) (second .1) in
+      let last = both-parts _ (a .1) (tail .under) (second .1) in
       let b = apart t (circuitSize * i + 12) 16 (omega arith) (last .0) in
       valid-is (recordVerdict records t i)
       (record-valid records t i
-      ∙ and-both _ _ (and-both _ _ (and-both _ _ (a .0) (b .0)) (and-both _ _ (held-under (c .holder) (a .1)) (b .1)))
-      (and-both _ _ (and-both _ _ (a .2) (b .2)) (and-both _ _ (and-both _ _ (a .3) (and-both _ _ (b .3) (second .0))) (and-both _ _ (last .1) refl))))
+      ∙ and-both _ _
+      (and-both _ _ (and-both _ _ (a .0) (and-both _ _ (b .0) (if-present (c .holder) _ (λ q. tail .small)))) (and-both _ _ (held-under (c .holder) (a .1)) (b .1)))
+      (and-both _ _ (and-both _ _ (a .2) (b .2)) (and-both _ _ (and-both _ _ (holder-zero tail (a .3)) (and-both _ _ (b .3) (tail .spare))) (and-both _ _ (last .1) refl))))

@@ -13,11 +13,12 @@ use rules::verdict::Verdict;
 ghost use mathlib.Core.Path.{_≡_};
 ghost use mathlib.Core.Bool.{_&&_};
 ghost use Prim.Native.Nat.{_+_, _*_, _^_, _<_};
+ghost use Rattle.octets.specs.Span.{span};
 ghost use Rattle.rules.specs.Fields.{pointCodeOk};
 ghost use Rattle.rules.specs.Valid.{ifPresent, heldUnder, reservedUnder, levelsOk, fieldsOk, pairOk, recordVerdict, recordsTo, partsTo};
 ghost use Rattle.rules.specs.Valid as rule;
-ghost use Rattle.rules.specs.Records.{circuitAt, circuits, flagsAt, records, checked, holderOctets};
-ghost use Rattle.validity.specs.Order.{fieldsFit, partInOrder, inOrder};
+ghost use Rattle.rules.specs.Records.{circuitSize, circuitAt, circuits, flagsAt, records, checked};
+ghost use Rattle.validity.specs.Order.{fieldsFit, partInOrder, ringsInOrder, tailInOrder, inOrder};
 ghost use Rattle.validity.specs.Order as order;
 ghost use Rattle.validity.specs.Code.{reasonDigit, digitOf, codeOf, reasonOf, checkCoded};
 
@@ -108,7 +109,7 @@ fn pair_ok(c: Circuit) -> bool
     if !c.reservation.present {
         return true;
     }
-    if !Standing::preemptable(c.holder.present, c.holder.mark.level) {
+    if !Standing::preemptable(c.holder.present, c.holder.mark.level, c.ringing) {
         return false;
     }
     c.reservation.mark.outranks(c.holder.mark)
@@ -164,16 +165,47 @@ fn fit(p: Part) -> bool
     }
 }
 
-// Tells whether the holder's part of record i is present and fit, or zero.
+// Tells whether the holder's part of record i is present and fit, or its first twelve octets are zero.
 fn holder_in_order(t: &[u8], i: usize) -> bool
     requires { ⌜ i < circuits (now t) ⌝ }
-    ensures { λ r. ⌜ r ≡ partInOrder (circuitAt (now (t .entry)) i .holder) (holderOctets (now (t .entry)) i) ⌝ }
+    ensures { λ r. ⌜ r ≡ partInOrder (circuitAt (now (t .entry)) i .holder) (span (now (t .entry)) (circuitSize * i) 12) ⌝ }
 {
     let p = table::holder_at(t, i);
     if p.present {
         fit(p)
     } else {
-        table::holder_zero(t, i)
+        table::first_zero(t, i)
+    }
+}
+
+// Tells whether the holder of record i rings, as it may: there is one, there is no reservation, and the octets that belong to no part are
+// zero.
+fn rings_in_order(t: &[u8], i: usize) -> bool
+    requires { ⌜ i < circuits (now t) ⌝ }
+    ensures { λ r. ⌜ r ≡ ringsInOrder (now (t .entry)) i ⌝ }
+{
+    if !table::ringing_at(t, i) {
+        return false;
+    }
+    if !table::spare_zero(t, i) {
+        return false;
+    }
+    if table::held_at(t, i) {
+        !table::reserved_at(t, i)
+    } else {
+        false
+    }
+}
+
+// Tells whether the last four octets of record i are zero, or its holder rings, as it may.
+fn tail_in_order(t: &[u8], i: usize) -> bool
+    requires { ⌜ i < circuits (now t) ⌝ }
+    ensures { λ r. ⌜ r ≡ tailInOrder (now (t .entry)) i ⌝ }
+{
+    if table::tail_zero(t, i) {
+        true
+    } else {
+        rings_in_order(t, i)
     }
 }
 
@@ -197,7 +229,7 @@ fn in_order(t: &[u8], i: usize) -> bool
     if !holder_in_order(t, i) {
         return false;
     }
-    if !table::spare_zero(t, i) {
+    if !tail_in_order(t, i) {
         return false;
     }
     if !table::reserved_at(t, i) {

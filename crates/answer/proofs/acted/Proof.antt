@@ -39,6 +39,12 @@ returns-5 c =
     let a = c .before .before .before .before .args in
     c .may-lose .ensures ∙ ap (λ (k : Act). answerOf (λ _. a .c) 0 (a .e) (Do k (a .i))) (sym (c .before .enum-told5 .given .1))
 
+returns-6 : tie.Need-returns-6
+unfolding answerOf
+returns-6 c =
+    let a = c .before .before .before .before .args in
+    c .no-loser3 .ensures ∙ ap (λ (k : Act). answerOf (λ _. a .c) 0 (a .e) (Do k (a .i))) (sym (c .before .enum-told6 .given .1))
+
 pub acted-spec : {M : Type 1} → statement M
 acted-spec =
     tie.close
@@ -55,8 +61,11 @@ acted-spec =
     (λ c κs. search needs)
     (λ c. search needs)
     (λ c κs. search needs)
+    (λ c. search needs)
+    (λ c κs. search needs)
     returns
     returns-2
     returns-3
     returns-4
-    returns-5)
+    returns-5
+    returns-6)

@@ -33,6 +33,11 @@ returns-5 c =
 returns-6 : tie.Need-returns-6
 unfolding decision
 returns-6 c =
+    simp (c .before .match .keys6) (c .on-holder3 .ensures)
+
+returns-7 : tie.Need-returns-7
+unfolding decision
+returns-7 c =
     search ways depth 8
 
 pub decision-spec : {M : Type 1} → statement M
@@ -44,9 +49,11 @@ decision-spec =
     (λ c κs. search needs)
     (λ c κs. search needs)
     (λ c κs. search needs)
+    (λ c κs. search needs)
     returns
     returns-2
     returns-3
     returns-4
     returns-5
-    returns-6)
+    returns-6
+    returns-7)

@@ -1,61 +1,57 @@
 -- The part that the act changes, or the whole circuit.
-use mathlib.Core.Path.{_≡_, ap, _∙_}
+use Prim.Native.Nat.{ℕ, _+_, _*_}
+use mathlib.Core.Path.{_≡_, refl, ap, _∙_}
+use mathlib.Core.List.{List, _++_}
 use denote.Ref.{now}
+use Rattle.octets.specs.Number.{octets}
+use Rattle.octets.specs.Span.{put}
+use Rattle.rules.specs.declared.circuit.Circuit.{Circuit}
+use Rattle.rules.specs.declared.event.Event.{Event}
 use Rattle.rules.specs.declared.outcome.Act.{Act}
 use Rattle.rules.specs.Circuit.{made}
-use Rattle.rules.specs.Records.{circuitAt, putCircuit}
+use Rattle.rules.specs.Records.{circuitAt, partOctets, stateOctets, putCircuit}
 use Rattle.effect.proofs.Parts.{holder-stays, reservation-stays}
 use borrow.Author.Needs.{needs}
 use Rattle.effect.proofs.act.Statement.{statement}
 use Rattle.effect.proofs.act.Tie as tie
 
--- what is written is what the act makes of the circuit that stood there
-is-made : (c : tie.After-made) → let a = c .before .before .before .before .args in c .made .result ≡ made (a .e) (a .a) (circuitAt (now (a .t)) (a .i))
-is-made c =
-    let a = c .before .before .before .before .args in
-    c .made .ensures ∙ ap (made (a .e) (a .a)) (c .before .circuit-at .ensures)
+-- the circuit was made anew, and is now written
+module _ (c : tie.After-made) where
+  abbrev known : tie.After-slice-known
+  known = c .before .before .before
 
-returns : tie.Need-returns
-returns c =
-    let making = c .before .before .before .before .before .before in
-    let a = making .before .before .before .before .args in
-    c .before .before .store .ensures ∙ ap (putCircuit (now (a .t)) (a .i)) (is-made making)
+  abbrev t : List ℕ
+  t = now (known .before .args .t)
 
-returns-2 : tie.Need-returns-2
-returns-2 c =
-    let making = c .before .before .before .before .before .before in
-    let known = making .before .before .before in
-    let a = known .before .args in
-    let t = now (a .t) in
-    let ready = known .before .pre in
-    let told = c .before .before .before .before .enum-told2 .given .1 in
-    holder-stays t (a .i) (λ k. known .slice-known .given k .fits) (ready .1) (ready .2) (is-made making) (ap (λ (k : Act). made (a .e) k (circuitAt t (a .i)) .holder) told) (c .before .before .store-reservation .ensures)
+  abbrev i : ℕ
+  i = known .before .args .i
 
-returns-3 : tie.Need-returns-3
-returns-3 c =
-    let making = c .before .before .before .before .before .before in
-    let known = making .before .before .before in
-    let a = known .before .args in
-    let t = now (a .t) in
-    let ready = known .before .pre in
-    let told = c .before .before .before .before .enum-told3 .given .1 in
-    reservation-stays t (a .i) (λ k. known .slice-known .given k .fits) (ready .1) (ready .2) (is-made making) (ap (λ (k : Act). made (a .e) k (circuitAt t (a .i)) .reservation) told) (ap (λ (k : Act). made (a .e) k (circuitAt t (a .i)) .clock) told) (c .before .before .store-holder .ensures)
+  abbrev e : Event
+  e = known .before .args .e
 
-returns-4 : tie.Need-returns-4
-returns-4 c =
-    let making = c .before .before .before .before .before .before in
-    let known = making .before .before .before in
-    let a = known .before .args in
-    let t = now (a .t) in
-    let ready = known .before .pre in
-    let told = c .before .before .before .before .enum-told4 .given .1 in
-    holder-stays t (a .i) (λ k. known .slice-known .given k .fits) (ready .1) (ready .2) (is-made making) (ap (λ (k : Act). made (a .e) k (circuitAt t (a .i)) .holder) told) (c .before .before .store-reservation2 .ensures)
+  abbrev act : Act
+  act = known .before .args .a
 
-returns-5 : tie.Need-returns-5
-returns-5 c =
-    let making = c .before .before .before .before .before .before in
-    let a = making .before .before .before .before .args in
-    c .before .before .store2 .ensures ∙ ap (putCircuit (now (a .t)) (a .i)) (is-made making)
+  abbrev new : Circuit  -- what the code made
+  new = c .made .result
+
+  is-made : new ≡ made e act (circuitAt t i)
+  is-made = c .made .ensures ∙ ap (made e act) (c .before .circuit-at .ensures)
+
+  whole : {u : List ℕ} → u ≡ putCircuit t i new → u ≡ putCircuit t i (made e act (circuitAt t i))
+  whole p = p ∙ ap (putCircuit t i) is-made
+
+  -- an act that leaves the holder
+  reservation-written : {a : Act} → act ≡ a → made e a (circuitAt t i) .holder ≡ circuitAt t i .holder → made e a (circuitAt t i) .ringing ≡ circuitAt t i .ringing → {u : List ℕ} → u ≡ put t (32 * i + 12) (partOctets (new .reservation) ++ octets 4 (new .clock)) → u ≡ putCircuit t i (made e act (circuitAt t i))
+  reservation-written told h g =
+      let was : (k : Act) → Circuit = λ k. made e k (circuitAt t i) in
+      holder-stays t i (λ k. known .slice-known .given k .fits) (known .before .pre .1) (known .before .pre .2) is-made (ap (λ (k : Act). was k .holder) told ∙ h) (ap (λ (k : Act). was k .ringing) told ∙ g)
+
+  -- an act that leaves the reservation
+  holder-written : {a : Act} → act ≡ a → made e a (circuitAt t i) .reservation ≡ circuitAt t i .reservation → made e a (circuitAt t i) .clock ≡ circuitAt t i .clock → {u : List ℕ} → u ≡ put (put t (32 * i) (partOctets (new .holder))) (32 * i + 30) (stateOctets (new .ringing)) → u ≡ putCircuit t i (made e act (circuitAt t i))
+  holder-written told r k =
+      let was : (k : Act) → Circuit = λ k. made e k (circuitAt t i) in
+      reservation-stays t i (λ k. known .slice-known .given k .fits) (known .before .pre .1) (known .before .pre .2) is-made (ap (λ (k : Act). was k .reservation) told ∙ r) (ap (λ (k : Act). was k .clock) told ∙ k)
 
 pub act-spec : {M : Type 1} → statement M
 act-spec =
@@ -74,12 +70,16 @@ act-spec =
     (λ c. search needs)
     (λ c κs. search needs)
     (λ c. search needs)
-    returns
+    (λ c κs. search needs)
     (λ c. search needs)
-    returns-2
+    (λ c. whole (c .before .before .before .before .before .before) (c .before .before .store .ensures))
     (λ c. search needs)
-    returns-3
+    (λ c. reservation-written (c .before .before .before .before .before .before) (c .before .before .before .before .enum-told2 .given .1) refl refl (c .before .before .store-reservation .ensures))
     (λ c. search needs)
-    returns-4
+    (λ c. holder-written (c .before .before .before .before .before .before) (c .before .before .before .before .enum-told3 .given .1) refl refl (c .before .before .store-holder .ensures))
     (λ c. search needs)
-    returns-5)
+    (λ c. reservation-written (c .before .before .before .before .before .before) (c .before .before .before .before .enum-told4 .given .1) refl refl (c .before .before .store-reservation2 .ensures))
+    (λ c. search needs)
+    (λ c. whole (c .before .before .before .before .before .before) (c .before .before .store2 .ensures))
+    (λ c. search needs)
+    (λ c. holder-written (c .before .before .before .before .before .before) (c .before .before .before .before .enum-told6 .given .1) refl refl (c .before .before .store-holder2 .ensures)))

@@ -1,4 +1,4 @@
--- The two parts and the clock.
+-- The two parts, the clock, and whether the holder rings.
 use borrow.Author.Needs.{needs}
 use Rattle.table.proofs.circuit_at.Statement.{statement}
 use Rattle.table.proofs.circuit_at.Tie as tie
@@ -12,4 +12,14 @@ circuit-at-spec =
     (λ c. search needs)
     (λ c. search needs)
     (λ c κs. search needs)
-    (λ c. λ i. record { holder = c .before .before .holder-at .ensures i; reservation = c .before .reservation-at .ensures i; clock = c .read-four .ensures i }))
+    (λ c κs. search needs)
+    (λ c.
+    let clock = c .before in
+    let reservation = clock .before in
+    λ i.
+    record {
+      holder = reservation .before .holder-at .ensures i;
+      reservation = reservation .reservation-at .ensures i;
+      clock = clock .read-four .ensures i;
+      ringing = c .ringing-at .ensures i;
+    }))

@@ -1,7 +1,6 @@
--- The flag, and the holder's level.
-use Prim.Native.Nat.{ℕ}
-use mathlib.Core.Path.{ap₂, _∙_}
-use mathlib.Core.Bool.{Bool, _||_, not}
+-- The flag, the holder's level, and whether it rings.
+use mathlib.Core.Path.{_∙_}
+use mathlib.Core.Bool.{_&&_, _||_, not}
 use Rattle.rules.specs.Fields.{levelOk}
 use borrow.Author.Needs.{needs}
 use Rattle.table.proofs.preemptable_at.Statement.{statement}
@@ -17,4 +16,8 @@ preemptable-at-spec =
     (λ c κs. search needs)
     (λ c κs. search needs)
     (λ c κs. search needs)
-    (λ c. c .preemptable .ensures ∙ ap₂ (λ (h : Bool) (l : ℕ). not h || levelOk l) (c .before .held-at .ensures) (c .before .before .in-record .ensures)))
+    (λ c κs. search needs)
+    (λ c.
+    let held = c .before .before .held-at .ensures in
+    let level = c .before .before .before .in-record .ensures in
+    c .preemptable .ensures ∙ (λ i. not (held i) || (levelOk (level i) && not (c .before .ringing-at .ensures i)))))

@@ -1,5 +1,5 @@
--- The holder's part, the reservation's, and four octets zero.
-use mathlib.Core.Path.{ap, _∙_}
+-- The holder's part, the reservation's, two octets zero, and the two that say whether the holder rings.
+use mathlib.Core.Path.{ap, ap₂, _∙_}
 use mathlib.Core.List.{List, _++_}
 use Prim.Native.Nat.{ℕ, _+_, _*_}
 use denote.Ref.{now}
@@ -7,7 +7,7 @@ use lib.ListN.{replicate}
 use Rattle.octets.specs.Number.{octets}
 use Rattle.octets.specs.Span.{put}
 use Rattle.octets.proofs.Spans.{put-put}
-use Rattle.rules.specs.Records.{partOctets, putCircuit}
+use Rattle.rules.specs.Records.{partOctets, stateOctets, putCircuit}
 use borrow.Author.Needs.{needs}
 use Rattle.table.proofs.store.Statement.{statement}
 use Rattle.table.proofs.store.Tie as tie
@@ -15,22 +15,35 @@ use Rattle.table.proofs.store.Tie as tie
 returns : tie.Need-returns
 unfolding putCircuit
 returns c =
-    let second = c .before .before .before .before .before .before .before in
+    let zeros = c .before .before .before .before .before .before .before in
+    let second = zeros .before .before .before .before .before in
     let first = second .before .before .before .before in
-    let a = first .before .before .before .args in
+    let state = first .before .before in
+    let a = state .before .before .args in
     let t = now (a .t) in
     let o = 32 * a .i in
     let h = partOctets (a .c .holder) in
     let r = partOctets (a .c .reservation) ++ octets 4 (a .c .clock) in
-    c .before .before .write .ensures
-    ∙ ap (λ (u : List ℕ). put u (o + 28) (replicate 4 0)) (second .store-reservation .ensures ∙ ap (λ (u : List ℕ). put u (o + 12) r) (first .store-holder .ensures) ∙ put-put t o h r)
-    ∙ put-put t o (h ++ r) (replicate 4 0)
+    let z : List ℕ = replicate 2 0 in
+    c .before .before .write2 .ensures
+    ∙ ap₂ (λ (u v : List ℕ). put u (o + 30) v)
+    (zeros .write .ensures
+    ∙ ap (λ (u : List ℕ). put u (o + 28) z) (second .store-reservation .ensures ∙ ap (λ (u : List ℕ). put u (o + 12) r) (first .store-part .ensures) ∙ put-put t o h r)
+    ∙ put-put t o (h ++ r) z)
+    (state .state-octets .ensures)
+    ∙ put-put t o ((h ++ r) ++ z) (stateOctets (a .c .ringing))
 
 pub store-spec : {M : Type 1} → statement M
 store-spec =
     tie.close
     (tie.spec
     (λ c κs. search needs)
+    (λ c. search needs)
+    (λ c κs. search needs)
+    (λ c κs. search needs)
+    (λ c. search needs)
+    (λ c. search needs)
+    (λ c. search needs)
     (λ c κs. search needs)
     (λ c. search needs)
     (λ c. search needs)

@@ -29,7 +29,7 @@ reserved c last =
     let three = c .before .before .before in
     let five = three .before .before in
     and-on _ _ (five .before .before .holder-in-order .ensures) (not-false _ (five .before .if1 .left))
-    (and-on _ _ (five .spare-zero .ensures) (not-false _ (three .before .if2 .left))
+    (and-on _ _ (five .tail-in-order .ensures) (not-false _ (three .before .if2 .left))
     (if-true _ _ _ (three .reserved-at .ensures) (not-false _ (c .before .before .if3 .left)) last))
 
 returns-4 : tie.Need-returns-4

@@ -1,0 +1,20 @@
+-- One test after the other.
+use mathlib.Core.Path.{ap, _∙_}
+use mathlib.Core.Bool.{not}
+use Rattle.octets.proofs.Tests.{both}
+use borrow.Author.Needs.{needs}
+use Rattle.validity.proofs.rings_in_order.Statement.{statement}
+use Rattle.validity.proofs.rings_in_order.Tie as tie
+
+pub rings-in-order-spec : {M : Type 1} → statement M
+rings-in-order-spec =
+    tie.close
+    (tie.spec
+    (λ c κs. search needs)
+    (λ c. search both)
+    (λ c κs. search needs)
+    (λ c. search both depth 8)
+    (λ c κs. search needs)
+    (λ c κs. search needs)
+    (λ c. let free = ap not (c .reserved-at .ensures) in search both depth 8)
+    (λ c. search both depth 8))
