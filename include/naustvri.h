@@ -27,8 +27,8 @@
 
 /* The version of this header: one number that grows, and its three parts. The major part grows where a host that ignores the change
  * would be wrong, the minor part with any other change that a host sees. */
-#define NAUSTVRI_VERSION_MAJOR 2
-#define NAUSTVRI_VERSION_MINOR 4
+#define NAUSTVRI_VERSION_MAJOR 3
+#define NAUSTVRI_VERSION_MINOR 0
 #define NAUSTVRI_VERSION_PATCH 0
 #define NAUSTVRI_VERSION (NAUSTVRI_VERSION_MAJOR * 10000u + NAUSTVRI_VERSION_MINOR * 100u + NAUSTVRI_VERSION_PATCH)
 
@@ -53,22 +53,23 @@ extern "C" {
     next(NAUSTVRI_CANCELLED, 6, "the reservation is gone, a holder stays") \
     next(NAUSTVRI_CLOCK_TAKEN, 7, "the clock was looked at") \
     next(NAUSTVRI_UNMARKED, 8, "the holder stays, without a precedence; a reservation above it, if there was one, is lost") \
+    next(NAUSTVRI_NOW_ANSWERED, 9, "the holder stays, and rings no more") \
     next(NAUSTVRI_WRONG_LENGTH, 20, "a length is wrong") \
     next(NAUSTVRI_TOO_MANY_LISTS, 60, "a list too many: the totals take no more") \
     next(NAUSTVRI_PARAMETER_CUT_SHORT, 61, "the octets of the optional part run out inside a parameter") \
     next(NAUSTVRI_NO_END, 62, "the octets of the optional part run out before a name") \
     next(NAUSTVRI_PRECEDENCE_TWICE, 63, "precedence is given twice in one optional part or list") \
     next(NAUSTVRI_MALFORMED, 22, "the event, field or parameter is malformed") \
-    next(NAUSTVRI_FLAG_OR_LEVEL, 41, "a flag is neither 0 nor 1, or the level of a present part is above 4 (a holder's may be 15 if its domain is zero)") \
+    next(NAUSTVRI_FLAG_OR_LEVEL, 41, "a flag or a holder's octet 30 is above 1, or a present part's level above 4 (a holder's may be 15 if its domain is zero)") \
     next(NAUSTVRI_DIGIT_OR_POINT_CODE, 42, "a digit of a present part is above 9, or a spare bit of its point code is set") \
-    next(NAUSTVRI_NOT_ZERO, 43, "an octet of an absent part, or of octets 28 to 31, is not zero") \
-    next(NAUSTVRI_NOT_ABOVE_HOLDER, 44, "the reservation is not strictly above the holder in the same domain, or stands above a holder of level 15") \
+    next(NAUSTVRI_NOT_ZERO, 43, "an octet of an absent part, octet 30 with the holder's, or octet 28, 29 or 31 is not zero") \
+    next(NAUSTVRI_NOT_ABOVE_HOLDER, 44, "the reservation is above a holder that rings, has level 15, or is not strictly lower in the same domain") \
     next(NAUSTVRI_REPEATED_REFERENCE, 45, "the reference of a present part stands in an earlier present part") \
     next(NAUSTVRI_LOOK_AHEAD_NOT_ALLOWED, 23, "a look-ahead whose LFB is not \"allowed\"") \
     next(NAUSTVRI_LOOK_AHEAD_BY_ROUTINE, 24, "a look-ahead by ROUTINE") \
     next(NAUSTVRI_ALREADY_PRESENT, 25, "set-up by a call that holds a circuit; look-ahead by one that holds or has reserved one") \
     next(NAUSTVRI_RESERVATION_DIFFERS, 26, "set-up whose level or domain is not its reservation's") \
-    next(NAUSTVRI_NOT_PRESENT, 27, "release or no-service without a holder, cancel without a reservation") \
+    next(NAUSTVRI_NOT_PRESENT, 27, "release, no-service or answered without a holder, cancel without a reservation") \
     next(NAUSTVRI_NO_CIRCUIT_ROUTINE, 30, "set-up by ROUTINE, no circuit free") \
     next(NAUSTVRI_NO_CIRCUIT_PRECEDENCE, 31, "set-up by a higher level, no circuit free or takeable") \
     next(NAUSTVRI_NO_CIRCUIT_LOOK_AHEAD, 32, "look-ahead, no circuit free or takeable")
@@ -99,14 +100,19 @@ extern "C" {
     next(NAUSTVRI_LFB_NOT_ALLOWED, 2, "not allowed")
 
 /* The kind of an event. A no-service event says that the called party of a holder is without the service: the holder keeps its circuit, its level
- * becomes NO_PRECEDENCE and its domain zero, and a reservation above it is lost. A second one is answered by UNMARKED too and changes nothing. */
+ * becomes NO_PRECEDENCE and its domain zero, and a reservation above it is lost. A second one is answered by UNMARKED too and changes nothing.
+ *
+ * An answered event says that the called party of a holder has answered. From its set-up until then the holder rings: no call takes its circuit, and
+ * none reserves above it. So a call that is never reported as answered is never taken. A second answered event is answered by NOW_ANSWERED too and
+ * changes nothing. It may come before a no-service event of the same call or after it. */
 #define NAUSTVRI_KINDS(first, next) \
     first(NAUSTVRI_SET_UP, 1, "set-up") \
     next(NAUSTVRI_RELEASE, 2, "release") \
     next(NAUSTVRI_LOOK_AHEAD, 3, "look-ahead") \
     next(NAUSTVRI_CANCEL, 4, "cancel") \
     next(NAUSTVRI_CLOCK, 5, "clock") \
-    next(NAUSTVRI_NO_SERVICE, 6, "no-service")
+    next(NAUSTVRI_NO_SERVICE, 6, "no-service") \
+    next(NAUSTVRI_ANSWERED, 7, "answered")
 
 /* The names of parameters that the library knows. Name 0 ends an optional part. Any other name is passed over in a part that is read, and written as
  * it stands in a list. */
@@ -141,7 +147,7 @@ enum naustvri_name { NAUSTVRI_NAMES(NAUSTVRI_FIRST_CONSTANT, NAUSTVRI_NEXT_CONST
 #define NAUSTVRI_RESERVATION_STEPS 3000 /* a reservation of this age or more, in steps of 10 ms, goes at a clock event */
 
 /* A circuit, 32 octets: where each field stands. A part whose flag is 0 is all zero. */
-#define NAUSTVRI_CIRCUIT_HELD 0                   /* flag of the holder's part, octets 0 to 11 */
+#define NAUSTVRI_CIRCUIT_HELD 0                   /* flag of the holder's part, octets 0 to 11 and 30 */
 #define NAUSTVRI_CIRCUIT_HOLDER_LEVEL 1           /* 0 to 4; or NO_PRECEDENCE, where the domain is zero and the circuit not reserved */
 #define NAUSTVRI_CIRCUIT_HOLDER_DOMAIN 2          /* octets 2 to 6 of the precedence parameter */
 #define NAUSTVRI_CIRCUIT_HOLDER_REFERENCE 7
@@ -150,11 +156,12 @@ enum naustvri_name { NAUSTVRI_NAMES(NAUSTVRI_FIRST_CONSTANT, NAUSTVRI_NEXT_CONST
 #define NAUSTVRI_CIRCUIT_RESERVATION_DOMAIN 14
 #define NAUSTVRI_CIRCUIT_RESERVATION_REFERENCE 19
 #define NAUSTVRI_CIRCUIT_RESERVATION_CLOCK 24     /* 4 octets: the clock at reservation */
-#define NAUSTVRI_CIRCUIT_ZERO 28                  /* 4 octets, zero */
+#define NAUSTVRI_CIRCUIT_ZERO 28                  /* octets 28, 29 and 31: zero */
+#define NAUSTVRI_CIRCUIT_RINGING 30               /* of the holder's part: 1 while the holder rings, and the circuit is then not reserved; else 0 */
 
 /* An event, 16 octets. */
 #define NAUSTVRI_EVENT_KIND 0
-#define NAUSTVRI_EVENT_PRECEDENCE 1 /* zero, spare bits too, in a release, a cancel, a clock and a no-service event */
+#define NAUSTVRI_EVENT_PRECEDENCE 1 /* zero, spare bits too, in every event but a set-up and a look-ahead */
 #define NAUSTVRI_EVENT_REFERENCE 7  /* zero, spare bits too, in a clock event */
 #define NAUSTVRI_EVENT_CLOCK 12     /* 4 octets, steps of 10 ms: read in a look-ahead and a clock event */
 

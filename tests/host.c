@@ -135,7 +135,9 @@ static void add_offsets(void)
     octets[NAUSTVRI_EVENT_SIZE + NAUSTVRI_ANSWER_NUMBER] = NAUSTVRI_DONE;
     octets[NAUSTVRI_EVENT_REFERENCE + NAUSTVRI_REFERENCE_SIZE] = NAUSTVRI_CAUSE_NO_CIRCUIT;
     expect(octets[NAUSTVRI_EVENT_CLOCK] == 34, "the clock follows after the reference");
-    expect(NAUSTVRI_CIRCUIT_ZERO + 4 == NAUSTVRI_CIRCUIT_SIZE, "four zero octets end a circuit");
+    expect(NAUSTVRI_CIRCUIT_RESERVATION_CLOCK + 4 == NAUSTVRI_CIRCUIT_ZERO, "zero octets follow after a circuit's last part");
+    expect(NAUSTVRI_CIRCUIT_ZERO + 2 == NAUSTVRI_CIRCUIT_RINGING, "two of them, then octet 30");
+    expect(NAUSTVRI_CIRCUIT_RINGING + 2 == NAUSTVRI_CIRCUIT_SIZE, "and one more ends a circuit");
 }
 
 #ifdef NAUSTVRI_INLINE

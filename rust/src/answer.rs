@@ -3,8 +3,8 @@
 use crate::{
     read_reference, Reference, Refusal, ANSWER_CALL_LOST, ANSWER_CAUSE, ANSWER_LOST_CALL,
     ANSWER_LOST_RESERVATION, ANSWER_NUMBER, ANSWER_PLACE, ANSWER_RESERVATION_LOST, ANSWER_SIZE,
-    CANCELLED, CLOCK_TAKEN, NO_PLACE, REFERENCE_SIZE, RELEASED, RESERVED, RESERVED_WITH_LOSS,
-    SEIZED, SEIZED_WITH_LOSS, UNMARKED,
+    CANCELLED, CLOCK_TAKEN, NOW_ANSWERED, NO_PLACE, REFERENCE_SIZE, RELEASED, RESERVED,
+    RESERVED_WITH_LOSS, SEIZED, SEIZED_WITH_LOSS, UNMARKED,
 };
 
 /// Who lost something by a set-up, a look-ahead or a no-service event. Only a set-up costs a call its circuit.
@@ -56,6 +56,11 @@ pub enum Done {
         /// Who lost something: the call that had the circuit reserved, if there was one.
         lost: Lost,
     },
+    /// The holder stays, and rings no more: [`NOW_ANSWERED`](crate::NOW_ANSWERED).
+    NowAnswered {
+        /// The circuit.
+        circuit: u16,
+    },
 }
 
 /// An answer as its octets have it.
@@ -101,6 +106,7 @@ impl Answer {
             (CANCELLED, Some(circuit)) => Ok(Done::Cancelled { circuit }),
             (CLOCK_TAKEN, Some(removed)) => Ok(Done::ClockTaken { removed }),
             (UNMARKED, Some(circuit)) => Ok(Done::Unmarked { circuit, lost }),
+            (NOW_ANSWERED, Some(circuit)) => Ok(Done::NowAnswered { circuit }),
             (number, record) => Err(Refusal::from_number(number, record.unwrap_or(NO_PLACE))),
         }
     }

@@ -1,9 +1,9 @@
 // The version, sizes, limits and offsets of include/naustvri.h, by its names without their prefix. A test compares the two.
 
 /// The major part of [`VERSION`]: it grows where a host that ignores the change would be wrong.
-pub const VERSION_MAJOR: u32 = 2;
+pub const VERSION_MAJOR: u32 = 3;
 /// The minor part of [`VERSION`]: it grows with any other change that a host sees.
-pub const VERSION_MINOR: u32 = 4;
+pub const VERSION_MINOR: u32 = 0;
 /// The patch part of [`VERSION`].
 pub const VERSION_PATCH: u32 = 0;
 /// The version of this package, one number that grows; [`version()`](crate::version) is the archive's.
@@ -31,7 +31,7 @@ pub const LISTS_MOST: u64 = 65536;
 /// A reservation of this age or more, in steps of 10 ms, goes at a clock event.
 pub const RESERVATION_STEPS: u32 = 3000;
 
-/// In a circuit: the flag of the holder's part, octets 0 to 11. A part whose flag is 0 is all zero.
+/// In a circuit: the flag of the holder's part, octets 0 to 11 and 30. A part whose flag is 0 is all zero.
 pub const CIRCUIT_HELD: usize = 0;
 /// In a circuit: the holder's level, 0 to 4; or [`NO_PRECEDENCE`](crate::NO_PRECEDENCE), where the domain is zero and the circuit not reserved.
 pub const CIRCUIT_HOLDER_LEVEL: usize = 1;
@@ -49,12 +49,14 @@ pub const CIRCUIT_RESERVATION_DOMAIN: usize = 14;
 pub const CIRCUIT_RESERVATION_REFERENCE: usize = 19;
 /// In a circuit: four octets, the clock at reservation.
 pub const CIRCUIT_RESERVATION_CLOCK: usize = 24;
-/// In a circuit: four octets, zero.
+/// In a circuit: octets 28, 29 and 31, zero.
 pub const CIRCUIT_ZERO: usize = 28;
+/// In a circuit: an octet of the holder's part, 1 while the holder rings, and the circuit is then not reserved; else 0.
+pub const CIRCUIT_RINGING: usize = 30;
 
 /// In an event: its kind.
 pub const EVENT_KIND: usize = 0;
-/// In an event: the precedence parameter; zero, spare bits too, in a release, a cancel, a clock and a no-service event.
+/// In an event: the precedence parameter; zero, spare bits too, in every event but a set-up and a look-ahead.
 pub const EVENT_PRECEDENCE: usize = 1;
 /// In an event: the call reference; zero, spare bits too, in a clock event.
 pub const EVENT_REFERENCE: usize = 7;

@@ -63,6 +63,11 @@ pub enum Event {
         /// The call.
         call: Reference,
     },
+    /// The called party of a call that holds a circuit has answered: it rings no more. Until then nobody takes the circuit from it.
+    Answered {
+        /// The call.
+        call: Reference,
+    },
 }
 
 impl Event {
@@ -76,6 +81,7 @@ impl Event {
             Event::Cancel { .. } => Kind::Cancel,
             Event::Clock { .. } => Kind::Clock,
             Event::NoService { .. } => Kind::NoService,
+            Event::Answered { .. } => Kind::Answered,
         }
     }
 
@@ -102,7 +108,8 @@ impl Event {
             | Event::Release { call }
             | Event::LookAhead { call, .. }
             | Event::Cancel { call }
-            | Event::NoService { call } => Some(call),
+            | Event::NoService { call }
+            | Event::Answered { call } => Some(call),
             Event::Clock { .. } => None,
         }
     }

@@ -84,6 +84,7 @@ numbered! {
     Cancel = CANCEL,
     Clock = CLOCK,
     NoService = NO_SERVICE,
+    Answered = ANSWERED,
 }
 
 numbered! {

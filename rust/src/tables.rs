@@ -42,22 +42,23 @@ table! {
     CANCELLED = 6, "the reservation is gone, a holder stays";
     CLOCK_TAKEN = 7, "the clock was looked at";
     UNMARKED = 8, "the holder stays, without a precedence; a reservation above it, if there was one, is lost";
+    NOW_ANSWERED = 9, "the holder stays, and rings no more";
     WRONG_LENGTH = 20, "a length is wrong";
     TOO_MANY_LISTS = 60, "a list too many: the totals take no more";
     PARAMETER_CUT_SHORT = 61, "the octets of the optional part run out inside a parameter";
     NO_END = 62, "the octets of the optional part run out before a name";
     PRECEDENCE_TWICE = 63, "precedence is given twice in one optional part or list";
     MALFORMED = 22, "the event, field or parameter is malformed";
-    FLAG_OR_LEVEL = 41, "a flag is neither 0 nor 1, or the level of a present part is above 4 (a holder's may be 15 if its domain is zero)";
+    FLAG_OR_LEVEL = 41, "a flag or a holder's octet 30 is above 1, or a present part's level above 4 (a holder's may be 15 if its domain is zero)";
     DIGIT_OR_POINT_CODE = 42, "a digit of a present part is above 9, or a spare bit of its point code is set";
-    NOT_ZERO = 43, "an octet of an absent part, or of octets 28 to 31, is not zero";
-    NOT_ABOVE_HOLDER = 44, "the reservation is not strictly above the holder in the same domain, or stands above a holder of level 15";
+    NOT_ZERO = 43, "an octet of an absent part, octet 30 with the holder's, or octet 28, 29 or 31 is not zero";
+    NOT_ABOVE_HOLDER = 44, "the reservation is above a holder that rings, has level 15, or is not strictly lower in the same domain";
     REPEATED_REFERENCE = 45, "the reference of a present part stands in an earlier present part";
     LOOK_AHEAD_NOT_ALLOWED = 23, "a look-ahead whose LFB is not \"allowed\"";
     LOOK_AHEAD_BY_ROUTINE = 24, "a look-ahead by ROUTINE";
     ALREADY_PRESENT = 25, "set-up by a call that holds a circuit; look-ahead by one that holds or has reserved one";
     RESERVATION_DIFFERS = 26, "set-up whose level or domain is not its reservation's";
-    NOT_PRESENT = 27, "release or no-service without a holder, cancel without a reservation";
+    NOT_PRESENT = 27, "release, no-service or answered without a holder, cancel without a reservation";
     NO_CIRCUIT_ROUTINE = 30, "set-up by ROUTINE, no circuit free";
     NO_CIRCUIT_PRECEDENCE = 31, "set-up by a higher level, no circuit free or takeable";
     NO_CIRCUIT_LOOK_AHEAD = 32, "look-ahead, no circuit free or takeable";
@@ -103,6 +104,7 @@ table! {
     CANCEL = 4, "cancel";
     CLOCK = 5, "clock";
     NO_SERVICE = 6, "no-service";
+    ANSWERED = 7, "answered";
 }
 
 // The names of parameters that the library knows. Name 0 ends an optional part. Any other name is passed over in a part that is read, and written as

@@ -2,10 +2,10 @@
 use Prim.Native.Nat.{ℕ, _+_, _*_}
 
 abbrev pub major : ℕ  -- the major part grows where a host that ignores the change would be wrong
-major = 2
+major = 3
 
 abbrev pub minor : ℕ  -- the minor part grows with each other change that a host sees
-minor = 4
+minor = 0
 
 abbrev pub patch : ℕ  -- the patch part grows with a change that no host sees
 patch = 0

@@ -12,9 +12,9 @@ ghost use Rattle.tally.specs.Entry.{figuresNumber, figuresTable, figuresAnswers
 ghost use Rattle.naustvri.specs.Version.{version};
 
 // The version has these three parts, as in the header.
-const MAJOR: u32 = 2;
+const MAJOR: u32 = 3;
 
-const MINOR: u32 = 4;
+const MINOR: u32 = 0;
 
 const PATCH: u32 = 0;
 
