@@ -19,7 +19,7 @@ pub struct Domain {
 #[derive(Clone, Copy, Debug, PartialEq, Eq, Hash)]
 #[non_exhaustive]
 pub enum Event {
-    /// A call asks for a circuit.
+    /// A call asks for a circuit. If it gets one, it rings until it is answered, and until then nobody takes the circuit from it.
     SetUp {
         /// The call.
         call: Reference,
@@ -63,7 +63,7 @@ pub enum Event {
         /// The call.
         call: Reference,
     },
-    /// The called party of a call that holds a circuit has answered: it rings no more. Until then nobody takes the circuit from it.
+    /// The called party of a call that holds a circuit has answered: the call rings no more.
     Answered {
         /// The call.
         call: Reference,

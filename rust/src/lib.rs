@@ -12,12 +12,16 @@
 //!     let mut table = [0; CIRCUIT_SIZE]; // one circuit, free
 //!     let mut route = Route::new(&mut table)?;
 //!
-//!     // A ROUTINE call gets the circuit, then a PRIORITY call takes it, and another finds none.
+//!     // A ROUTINE call gets the circuit. While it rings nobody takes it.
 //!     let nobody = Lost::default();
 //!     assert_eq!(route.apply(&set_up(1, Level::Routine))?, Done::Seized { circuit: 0, lost: nobody });
-//!     let first = Lost { call: Some(Reference { identity: 1, point: 1 }), reservation: None };
-//!     assert_eq!(route.apply(&set_up(2, Level::Priority))?, Done::Seized { circuit: 0, lost: first });
-//!     assert_eq!(route.apply(&set_up(3, Level::Priority)), Err(Refusal::NoCircuitPrecedence));
+//!     assert_eq!(route.apply(&set_up(2, Level::Priority)), Err(Refusal::NoCircuitPrecedence));
+//!
+//!     // It is answered; now the PRIORITY call takes the circuit.
+//!     let first = Reference { identity: 1, point: 1 };
+//!     assert_eq!(route.apply(&Event::Answered { call: first })?, Done::NowAnswered { circuit: 0 });
+//!     let lost = Lost { call: Some(first), reservation: None };
+//!     assert_eq!(route.apply(&set_up(2, Level::Priority))?, Done::Seized { circuit: 0, lost });
 //!     Ok(())
 //! }
 //! ```

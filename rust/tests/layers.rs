@@ -37,8 +37,9 @@ fn draw(random: &mut Random, clock: u32) -> Drawn {
     let first_digit = random.mostly_below(2, 10) as u8;
     Drawn {
         kind: [
-            SET_UP, SET_UP, RELEASE, LOOK_AHEAD, LOOK_AHEAD, CANCEL, CLOCK, NO_SERVICE,
-        ][random.below(8) as usize],
+            SET_UP, SET_UP, RELEASE, LOOK_AHEAD, LOOK_AHEAD, CANCEL, CLOCK, NO_SERVICE, ANSWERED,
+            ANSWERED, ANSWERED, ANSWERED,
+        ][random.below(12) as usize],
         precedence: Precedence {
             level: random.below(5) as u8,
             lfb: [LFB_ALLOWED, LFB_ALLOWED, LFB_PATH_RESERVED, LFB_NOT_ALLOWED]
@@ -84,6 +85,7 @@ fn typed(drawn: &Drawn) -> Event {
         },
         CANCEL => Event::Cancel { call },
         NO_SERVICE => Event::NoService { call },
+        ANSWERED => Event::Answered { call },
         _ => Event::Clock { clock },
     }
 }
@@ -140,6 +142,7 @@ fn as_answer(result: Result<Done, Refusal>) -> Answer {
         Ok(Done::Cancelled { circuit }) => (6, 0, Some(circuit), nobody),
         Ok(Done::ClockTaken { removed }) => (7, 0, Some(removed), nobody),
         Ok(Done::Unmarked { circuit, lost }) => (8, 0, Some(circuit), lost),
+        Ok(Done::NowAnswered { circuit }) => (9, 0, Some(circuit), nobody),
         Err(refusal) => (refusal.number(), refusal.cause(), refusal.record(), nobody),
         other => panic!("not looked at: {:?}", other),
     };
@@ -239,7 +242,9 @@ fn random_events() {
     }
     figures_close(&day, 200, &counted);
     // Every number that an event over a valid table can have.
-    for number in [1, 2, 3, 4, 5, 6, 7, 8, 22, 23, 24, 25, 26, 27, 30, 31, 32] {
+    for number in [
+        1, 2, 3, 4, 5, 6, 7, 8, 9, 22, 23, 24, 25, 26, 27, 30, 31, 32,
+    ] {
         assert!(seen[number] > 0, "no event was answered by {number}");
     }
     assert!(unmarked_with_loss > 0, "no reservation was lost by 8");

@@ -1,4 +1,5 @@
-// The library through the wrapper: document 01's listing, and every function with guard octets around the buffers that it writes.
+// The library through the wrapper: document 01's listing with the line that 02's L7 adds, and every function with guard octets around the buffers that
+// it writes.
 
 use naustvri::*;
 
@@ -58,11 +59,12 @@ fn call(identity: u32) -> Reference {
     Reference { identity, point: 1 }
 }
 
-// 01's events; a parameter that has to be zero is that of level 0.
-fn listed_events() -> [[u8; EVENT_SIZE]; 9] {
+// The listing's events; a parameter that has to be zero is that of level 0.
+fn listed_events() -> [[u8; EVENT_SIZE]; 10] {
     let nobody = Reference::default();
     [
         event_of(SET_UP, ROUTINE, call(1), 0),
+        event_of(ANSWERED, 0, call(1), 0),
         event_of(LOOK_AHEAD, IMMEDIATE, call(2), 100),
         event_of(SET_UP, PRIORITY, call(3), 0),
         event_of(SET_UP, PRIORITY, call(4), 0),
@@ -74,19 +76,20 @@ fn listed_events() -> [[u8; EVENT_SIZE]; 9] {
     ]
 }
 
-const LISTING: [&str; 9] = [
+const LISTING: [&str; 10] = [
     "1 1 0 0 - -",
-    "2 3 0 1 - -",
-    "3 2 0 0 1/1 -",
-    "4 31 46 - - -",
-    "5 27 0 - - -",
-    "6 7 0 0 - -",
-    "7 7 0 1 - -",
-    "8 1 0 1 - -",
-    "9 30 34 - - -",
+    "2 9 0 0 - -",
+    "3 3 0 1 - -",
+    "4 2 0 0 1/1 -",
+    "5 31 46 - - -",
+    "6 27 0 - - -",
+    "7 7 0 0 - -",
+    "8 7 0 1 - -",
+    "9 1 0 1 - -",
+    "10 30 34 - - -",
 ];
 
-// An answer as a line of 01's listing.
+// An answer as a line of the listing.
 fn line(count: usize, answer: &[u8]) -> String {
     let place = match u16::from_le_bytes([answer[ANSWER_PLACE], answer[ANSWER_PLACE + 1]]) {
         NO_PLACE => String::from("-"),
@@ -122,7 +125,7 @@ fn listing_event_by_event() {
 fn listing_as_a_list() {
     let mut table = [0; 2 * CIRCUIT_SIZE];
     let events = listed_events().concat();
-    let mut answers = [0xff; 9 * ANSWER_SIZE];
+    let mut answers = [0xff; LISTING.len() * ANSWER_SIZE];
     let number = guarded(&mut table, |table| {
         guarded(&mut answers, |answers| list(table, &events, answers))
     });
@@ -130,13 +133,13 @@ fn listing_as_a_list() {
     for (i, answer) in answers.chunks(ANSWER_SIZE).enumerate() {
         assert_eq!(line(i + 1, answer), LISTING[i]);
     }
-    // The calls that hold the two circuits at the end.
-    for (i, identity) in [3, 4].into_iter().enumerate() {
-        let at = i * CIRCUIT_SIZE + CIRCUIT_HOLDER_REFERENCE;
+    // The calls that hold the two circuits at the end, and ring.
+    for (circuit, identity) in table.chunks(CIRCUIT_SIZE).zip([3, 4]) {
         assert_eq!(
-            read_reference(&table[at..at + REFERENCE_SIZE]).value,
+            read_reference(&circuit[CIRCUIT_HOLDER_REFERENCE..CIRCUIT_RESERVED]).value,
             call(identity)
         );
+        assert_eq!(circuit[CIRCUIT_RINGING], 1);
     }
 }
 
@@ -184,7 +187,7 @@ fn add(table: &mut [u8], events: &[u8], answers: &mut [u8], totals: &mut [u64]) 
 fn figures_of_the_listing() {
     let mut table = [0; 2 * CIRCUIT_SIZE];
     let events = listed_events().concat();
-    let mut answers = [0xff; 9 * ANSWER_SIZE];
+    let mut answers = [0xff; LISTING.len() * ANSWER_SIZE];
     let mut totals = [0; FIGURES];
     assert_eq!(add(&mut table, &events, &mut answers, &mut totals), DONE);
     for (i, answer) in answers.chunks(ANSWER_SIZE).enumerate() {
@@ -201,7 +204,16 @@ fn figures_of_the_listing() {
     ] {
         wanted[place] = total;
     }
-    for (number, total) in [(1, 2), (2, 1), (3, 1), (7, 2), (27, 1), (30, 1), (31, 1)] {
+    for (number, total) in [
+        (1, 2),
+        (2, 1),
+        (3, 1),
+        (7, 2),
+        (9, 1),
+        (27, 1),
+        (30, 1),
+        (31, 1),
+    ] {
         wanted[FIGURE_ANSWERED + number] = total;
     }
     assert_eq!(totals, wanted);
@@ -427,8 +439,10 @@ fn refused_everywhere(table: &[u8], number: u8, record: u16) {
 fn bad_record_is_named() {
     let mut sound = [0; 3 * CIRCUIT_SIZE];
     for identity in 1..=2 {
-        let octets = event_of(SET_UP, ROUTINE, call(identity), 0);
-        assert_eq!(apply(&mut sound, &octets, &mut [0; ANSWER_SIZE]), SEIZED);
+        for (kind, level, number) in [(SET_UP, ROUTINE, SEIZED), (ANSWERED, 0, NOW_ANSWERED)] {
+            let octets = event_of(kind, level, call(identity), 0);
+            assert_eq!(apply(&mut sound, &octets, &mut [0; ANSWER_SIZE]), number);
+        }
     }
     let changed = |record: usize, place: usize, octet: u8| {
         let mut table = sound;
@@ -463,13 +477,14 @@ fn bad_record_is_named() {
     }
 }
 
-// Call 1 holds the only circuit, and its called party is without the service. It was set up at ROUTINE in a domain that is not zero.
+// Call 1 holds the only circuit; its called party has answered and is without the service. It was set up at ROUTINE in a domain that is not zero.
 fn unmarked() -> [u8; CIRCUIT_SIZE] {
     let mut table = [0; CIRCUIT_SIZE];
     let mut set_up = event_of(SET_UP, ROUTINE, call(1), 0);
     set_up[EVENT_PRECEDENCE + 1..EVENT_REFERENCE].copy_from_slice(&[0, 0x46, 0, 0, 7]);
     for (octets, number) in [
         (set_up, SEIZED),
+        (event_of(ANSWERED, 0, call(1), 0), NOW_ANSWERED),
         (event_of(NO_SERVICE, 0, call(1), 0), UNMARKED),
     ] {
         assert_eq!(apply(&mut table, &octets, &mut [0; ANSWER_SIZE]), number);
@@ -482,6 +497,7 @@ fn no_service() {
     let events = [
         event_of(NO_SERVICE, 0, call(1), 0),
         event_of(SET_UP, ROUTINE, call(1), 0),
+        event_of(ANSWERED, 0, call(1), 0),
         event_of(LOOK_AHEAD, PRIORITY, call(2), 100),
         event_of(NO_SERVICE, 0, call(2), 0),
         event_of(NO_SERVICE, ROUTINE, call(1), 0),
@@ -494,6 +510,7 @@ fn no_service() {
         event_of(CANCEL, 0, call(1), 0),
         event_of(RELEASE, 0, call(1), 0),
         event_of(SET_UP, ROUTINE, call(4), 0),
+        event_of(ANSWERED, 0, call(4), 0),
         event_of(SET_UP, PRIORITY, call(3), 0),
     ]
     .concat();
@@ -505,25 +522,27 @@ fn no_service() {
         .enumerate()
         .map(|(i, answer)| line(i + 1, answer))
         .collect();
-    // From the sixth event to the release nobody takes the circuit; after that PRIORITY takes it from a ROUTINE call.
+    // From the seventh event to the release nobody takes the circuit; after that PRIORITY takes it from a ROUTINE call.
     assert_eq!(
         lines,
         [
             "1 27 0 - - -",
             "2 1 0 0 - -",
-            "3 3 0 0 - -",
-            "4 27 0 - - -",
-            "5 22 0 - - -",
-            "6 8 0 0 - 2/1",
-            "7 8 0 0 - -",
-            "8 31 46 - - -",
-            "9 32 0 - - -",
-            "10 25 0 - - -",
+            "3 9 0 0 - -",
+            "4 3 0 0 - -",
+            "5 27 0 - - -",
+            "6 22 0 - - -",
+            "7 8 0 0 - 2/1",
+            "8 8 0 0 - -",
+            "9 31 46 - - -",
+            "10 32 0 - - -",
             "11 25 0 - - -",
-            "12 27 0 - - -",
-            "13 5 0 0 - -",
-            "14 1 0 0 - -",
-            "15 2 0 0 4/1 -",
+            "12 25 0 - - -",
+            "13 27 0 - - -",
+            "14 5 0 0 - -",
+            "15 1 0 0 - -",
+            "16 9 0 0 - -",
+            "17 2 0 0 4/1 -",
         ]
     );
     assert_eq!(totals[FIGURE_ANSWERED + usize::from(UNMARKED)], 2);
@@ -535,6 +554,15 @@ fn no_service() {
     ] {
         assert_eq!(totals[place], total);
     }
+}
+
+// A circuit with these octets at these places of it.
+fn with(circuit: &[u8; CIRCUIT_SIZE], changes: &[(usize, u8)]) -> [u8; CIRCUIT_SIZE] {
+    let mut changed = *circuit;
+    for &(place, octet) in changes {
+        changed[place] = octet;
+    }
+    changed
 }
 
 #[test]
@@ -557,13 +585,6 @@ fn level_15_in_a_table() {
         "the circuit is held"
     );
 
-    let changed = |changes: &[(usize, u8)]| {
-        let mut table = sound;
-        for &(place, octet) in changes {
-            table[place] = octet;
-        }
-        table
-    };
     let by_call_2 = (CIRCUIT_RESERVATION_REFERENCE, 2);
     for (changes, number) in [
         (&[(CIRCUIT_HOLDER_LEVEL, 14)][..], FLAG_OR_LEVEL),
@@ -585,8 +606,155 @@ fn level_15_in_a_table() {
             NOT_ABOVE_HOLDER,
         ),
     ] {
-        refused_everywhere(&changed(changes), number, 0);
+        refused_everywhere(&with(&sound, changes), number, 0);
     }
+}
+
+// A call rings from its set-up to its answered event: kind, level and call of each event on a route of one circuit, the line that it is answered by,
+// and octet 30 of the circuit after it.
+#[test]
+fn ringing() {
+    let script = [
+        (ANSWERED, 0, 1, "1 27 0 - - -", 0),
+        (SET_UP, ROUTINE, 1, "2 1 0 0 - -", 1),
+        // Nobody takes its circuit or reserves above it.
+        (SET_UP, FLASH_OVERRIDE, 2, "3 31 46 - - -", 1),
+        (LOOK_AHEAD, FLASH_OVERRIDE, 2, "4 32 0 - - -", 1),
+        // Its own events are answered as those of any holder.
+        (SET_UP, ROUTINE, 1, "5 25 0 - - -", 1),
+        (LOOK_AHEAD, PRIORITY, 1, "6 25 0 - - -", 1),
+        (LOOK_AHEAD, ROUTINE, 1, "7 24 0 - - -", 1),
+        (CANCEL, 0, 1, "8 27 0 - - -", 1),
+        (CLOCK, 0, 0, "9 7 0 0 - -", 1),
+        (ANSWERED, 0, 1, "10 9 0 0 - -", 0),
+        // A second answered event changes nothing, also under a reservation. A call that has only reserved is not there to be answered.
+        (ANSWERED, 0, 1, "11 9 0 0 - -", 0),
+        (LOOK_AHEAD, PRIORITY, 2, "12 3 0 0 - -", 0),
+        (ANSWERED, 0, 2, "13 27 0 - - -", 0),
+        (ANSWERED, 0, 1, "14 9 0 0 - -", 0),
+        // A call rings on its own reservation, and on the circuit that it takes.
+        (SET_UP, PRIORITY, 2, "15 2 0 0 1/1 -", 1),
+        (ANSWERED, 0, 1, "16 27 0 - - -", 1),
+        (SET_UP, FLASH, 3, "17 31 46 - - -", 1),
+        (ANSWERED, 0, 2, "18 9 0 0 - -", 0),
+        (SET_UP, FLASH, 3, "19 2 0 0 2/1 -", 1),
+        // A ringing call is released. A reservation with no holder is takeable.
+        (RELEASE, 0, 3, "20 5 0 0 - -", 0),
+        (LOOK_AHEAD, PRIORITY, 4, "21 3 0 0 - -", 0),
+        (SET_UP, FLASH, 5, "22 2 0 0 - 4/1", 1),
+        // A call whose mark comes off rings on. After it is answered it is not takeable either.
+        (NO_SERVICE, 0, 5, "23 8 0 0 - -", 1),
+        (ANSWERED, 0, 5, "24 9 0 0 - -", 0),
+        (SET_UP, FLASH_OVERRIDE, 6, "25 31 46 - - -", 0),
+    ];
+    let mut table = [0; CIRCUIT_SIZE];
+    for (i, (kind, level, identity, wanted, rings)) in script.into_iter().enumerate() {
+        let reference = match kind {
+            CLOCK => Reference::default(),
+            _ => call(identity),
+        };
+        let mut answer = [0xff; ANSWER_SIZE];
+        let octets = event_of(kind, level, reference, 100);
+        apply(&mut table, &octets, &mut answer);
+        assert_eq!(line(i + 1, &answer), wanted);
+        assert_eq!(table[CIRCUIT_RINGING], rings, "octet 30 after {wanted}");
+        assert_eq!(check(&table), VALID);
+    }
+}
+
+// An answered event makes octet 30 of its call's circuit zero and changes nothing else, whatever its clock and the spare bits of its reference are.
+#[test]
+fn answered_event() {
+    let mut ringing = [0; 3 * CIRCUIT_SIZE];
+    for identity in 1..=3 {
+        let octets = event_of(SET_UP, ROUTINE, call(identity), 0);
+        assert_eq!(apply(&mut ringing, &octets, &mut [0; ANSWER_SIZE]), SEIZED);
+    }
+    let mut wanted = ringing;
+    wanted[CIRCUIT_SIZE + CIRCUIT_RINGING] = 0;
+    let event = event_of(ANSWERED, 0, call(2), u32::MAX);
+    for spare in [0, 0x40, 0x80, 0xc0] {
+        let (mut octets, mut table) = (event, ringing);
+        octets[EVENT_REFERENCE + 4] |= spare;
+        // The second time the table stays.
+        for _ in 0..2 {
+            let mut answer = [0xff; ANSWER_SIZE];
+            assert_eq!(apply(&mut table, &octets, &mut answer), NOW_ANSWERED);
+            assert_eq!(line(1, &answer), "1 9 0 1 - -");
+            assert_eq!(table, wanted);
+        }
+    }
+    // Any bit of the parameter is malformed.
+    for bit in 0..8 * PRECEDENCE_SIZE {
+        let (mut octets, mut table, mut answer) = (event, ringing, [0xff; ANSWER_SIZE]);
+        octets[EVENT_PRECEDENCE + bit / 8] = 1 << (bit % 8);
+        assert_eq!(apply(&mut table, &octets, &mut answer), MALFORMED);
+        assert_eq!((table, answer), (ringing, refusing(MALFORMED, NO_PLACE)));
+    }
+}
+
+#[test]
+fn octet_30_in_a_table() {
+    // Call 1 holds the only circuit, and rings.
+    let mut held = [0; CIRCUIT_SIZE];
+    let set_up = event_of(SET_UP, ROUTINE, call(1), 0);
+    assert_eq!(apply(&mut held, &set_up, &mut [0; ANSWER_SIZE]), SEIZED);
+    assert_eq!(held[CIRCUIT_RESERVED..CIRCUIT_RINGING], [0; 18]);
+    assert_eq!(held[CIRCUIT_RINGING..], [1, 0]);
+
+    let octet_30 = |octet: u8| (CIRCUIT_RINGING, octet);
+    let reserved = [
+        (CIRCUIT_RESERVED, 1),
+        (CIRCUIT_RESERVATION_LEVEL, PRIORITY),
+        (CIRCUIT_RESERVATION_REFERENCE, 2),
+    ];
+    let free = [0; CIRCUIT_SIZE];
+    let (bare, above) = (with(&free, &reserved), with(&held, &reserved));
+    let mark_off = (CIRCUIT_HOLDER_LEVEL, NO_PRECEDENCE);
+    for table in [
+        held,
+        bare,
+        with(&held, &[octet_30(0)]),
+        with(&above, &[octet_30(0)]),
+        with(&held, &[mark_off]),
+    ] {
+        assert_eq!(check(&table), VALID);
+    }
+
+    let no_digit = (CIRCUIT_HOLDER_DOMAIN, 0xa0);
+    let routine = (CIRCUIT_RESERVATION_LEVEL, ROUTINE);
+    let domain = (CIRCUIT_RESERVATION_DOMAIN + 4, 1);
+    let (wrong_flag, last) = ((CIRCUIT_RESERVED, 2), (CIRCUIT_ZERO + 3, 1));
+    for (table, changes, number) in [
+        (&held, &[octet_30(2)][..], FLAG_OR_LEVEL),
+        (&held, &[octet_30(255)], FLAG_OR_LEVEL),
+        (&held, &[octet_30(2), mark_off], FLAG_OR_LEVEL),
+        (&held, &[octet_30(2), no_digit], FLAG_OR_LEVEL),
+        (&above, &[octet_30(2)], FLAG_OR_LEVEL),
+        (&free, &[octet_30(2), wrong_flag], FLAG_OR_LEVEL),
+        (&above, &[no_digit], DIGIT_OR_POINT_CODE),
+        (&free, &[octet_30(1)], NOT_ZERO),
+        (&free, &[octet_30(2)], NOT_ZERO),
+        (&free, &[octet_30(255)], NOT_ZERO),
+        (&bare, &[octet_30(1)], NOT_ZERO),
+        (&bare, &[octet_30(2)], NOT_ZERO),
+        (&held, &[(CIRCUIT_ZERO, 1)], NOT_ZERO),
+        (&held, &[(CIRCUIT_ZERO + 1, 1)], NOT_ZERO),
+        (&held, &[last], NOT_ZERO),
+        (&above, &[last], NOT_ZERO),
+        (&above, &[], NOT_ABOVE_HOLDER),
+        (&above, &[routine], NOT_ABOVE_HOLDER),
+        (&above, &[domain], NOT_ABOVE_HOLDER),
+        (&above, &[mark_off], NOT_ABOVE_HOLDER),
+    ] {
+        refused_everywhere(&with(table, changes), number, 0);
+    }
+
+    // A holder with 0 there counts as answered, as one of a table that an earlier version kept does.
+    let (mut kept, mut answer) = (with(&held, &[octet_30(0)]), [0xff; ANSWER_SIZE]);
+    let set_up = event_of(SET_UP, PRIORITY, call(2), 0);
+    apply(&mut kept, &set_up, &mut answer);
+    assert_eq!(line(1, &answer), "1 2 0 0 1/1 -");
 }
 
 // The optional part of an initial address message.

@@ -42,7 +42,7 @@ fn enums_there_and_back() {
             Reason::ALL.len(),
             Refusal::ALL.len()
         ),
-        (5, 3, 6, 5, 14)
+        (5, 3, 7, 5, 14)
     );
     assert_eq!(Level::from_number(NO_PRECEDENCE), None);
 }
@@ -64,10 +64,26 @@ fn texts() {
             "UNMARKED",
             "the holder stays, without a precedence; a reservation above it, if there was one, is lost",
         ),
+        (9, "NOW_ANSWERED", "the holder stays, and rings no more"),
         (
             22,
             "MALFORMED",
             "the event, field or parameter is malformed",
+        ),
+        (
+            27,
+            "NOT_PRESENT",
+            "release, no-service or answered without a holder, cancel without a reservation",
+        ),
+        (
+            41,
+            "FLAG_OR_LEVEL",
+            "a flag or a holder's octet 30 is above 1, or a present part's level above 4 (a holder's may be 15 if its domain is zero)",
+        ),
+        (
+            44,
+            "NOT_ABOVE_HOLDER",
+            "the reservation is above a holder that rings, has level 15, or is not strictly lower in the same domain",
         ),
         (
             60,
@@ -122,6 +138,7 @@ fn texts() {
         (kind_name(6), kind_meaning(6)),
         ("NO_SERVICE", "no-service")
     );
+    assert_eq!((kind_name(7), kind_meaning(7)), ("ANSWERED", "answered"));
     assert_eq!(
         (name_name(0), name_meaning(0)),
         ("NAME_END", "end of optional parameters")
@@ -160,7 +177,7 @@ fn refusals_are_errors() {
     });
     assert_eq!(
         error.to_string(),
-        "43 NOT_ZERO: an octet of an absent part, or of octets 28 to 31, is not zero, in record 7"
+        "43 NOT_ZERO: an octet of an absent part, octet 30 with the holder's, or octet 28, 29 or 31 is not zero, in record 7"
     );
     assert_eq!(Reason::NotZero.name(), "NOT_ZERO");
     assert_eq!(
