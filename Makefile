@@ -1,6 +1,6 @@
 #                     minutes, on two cores
 # make test           10 to 30   the gate: proofs, wrong edits, outside tests; its last line is 'N passed, 0 failed'
-# make demo           2 to 4     the three programs on 01's nine events, on one screen; seconds where they are proved
+# make demo           2 to 4     the three programs on the listing's ten events, on one screen; seconds where they are proved
 # make bench          2 to 4     the library's instructions beside those of plain C, in tables and docs/benchmark.svg; 1 where it is proved
 # make edits          15 to 40   every wrong edit, the gate's and more
 # make planted        1          errors planted in a stand-in for the library, each of which the outside tests find

@@ -1,6 +1,6 @@
 #!/bin/sh
-# demo.sh: 01's table of two free circuits and its nine events, in a folder of their own: the lamps before and after the events,
-# decide's line for each, and their figures.
+# demo.sh: 01's table of two free circuits and the ten events of its listing, of which 02's L7 added the second, in a folder of their own: the lamps
+# before and after the events, decide's line for each, and their figures.
 . "$(dirname "$0")/machine.sh"
 echo "demo: proves the three programs, crate by crate, and links them; some minutes where nothing is proved yet" >&2
 (cd "$repository" && "$rt" check decide panel figures 2>&1) | sed -un 's/^rt: \(.* proved ([0-9]* s)\)$/demo: \1/p' >&2
@@ -18,6 +18,7 @@ event() { octets "$1" "$2" 0 0 0 0 0 "$3" 0 0 "$4" 0 $(($5 % 256)) $(($5 / 256))
 # The events' octets, and the words that stand beside their lines.
 cat >script <<'END'
 1 4 1 1 0     set-up of call 1, ROUTINE
+7 0 1 1 0     call 1 is answered
 3 2 2 1 100   look-ahead of call 2, IMMEDIATE, at clock 100
 1 3 3 1 0     set-up of call 3, PRIORITY
 1 3 4 1 0     set-up of call 4, PRIORITY
