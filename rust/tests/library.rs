@@ -632,20 +632,21 @@ fn ringing() {
         (LOOK_AHEAD, PRIORITY, 2, "12 3 0 0 - -", 0),
         (ANSWERED, 0, 2, "13 27 0 - - -", 0),
         (ANSWERED, 0, 1, "14 9 0 0 - -", 0),
+        (SET_UP, PRIORITY, 3, "15 31 46 - - -", 0),
         // A call rings on its own reservation, and on the circuit that it takes.
-        (SET_UP, PRIORITY, 2, "15 2 0 0 1/1 -", 1),
-        (ANSWERED, 0, 1, "16 27 0 - - -", 1),
-        (SET_UP, FLASH, 3, "17 31 46 - - -", 1),
-        (ANSWERED, 0, 2, "18 9 0 0 - -", 0),
-        (SET_UP, FLASH, 3, "19 2 0 0 2/1 -", 1),
+        (SET_UP, PRIORITY, 2, "16 2 0 0 1/1 -", 1),
+        (ANSWERED, 0, 1, "17 27 0 - - -", 1),
+        (SET_UP, FLASH, 3, "18 31 46 - - -", 1),
+        (ANSWERED, 0, 2, "19 9 0 0 - -", 0),
+        (SET_UP, FLASH, 3, "20 2 0 0 2/1 -", 1),
         // A ringing call is released. A reservation with no holder is takeable.
-        (RELEASE, 0, 3, "20 5 0 0 - -", 0),
-        (LOOK_AHEAD, PRIORITY, 4, "21 3 0 0 - -", 0),
-        (SET_UP, FLASH, 5, "22 2 0 0 - 4/1", 1),
+        (RELEASE, 0, 3, "21 5 0 0 - -", 0),
+        (LOOK_AHEAD, PRIORITY, 4, "22 3 0 0 - -", 0),
+        (SET_UP, FLASH, 5, "23 2 0 0 - 4/1", 1),
         // A call whose mark comes off rings on. After it is answered it is not takeable either.
-        (NO_SERVICE, 0, 5, "23 8 0 0 - -", 1),
-        (ANSWERED, 0, 5, "24 9 0 0 - -", 0),
-        (SET_UP, FLASH_OVERRIDE, 6, "25 31 46 - - -", 0),
+        (NO_SERVICE, 0, 5, "24 8 0 0 - -", 1),
+        (ANSWERED, 0, 5, "25 9 0 0 - -", 0),
+        (SET_UP, FLASH_OVERRIDE, 6, "26 31 46 - - -", 0),
     ];
     let mut table = [0; CIRCUIT_SIZE];
     for (i, (kind, level, identity, wanted, rings)) in script.into_iter().enumerate() {
