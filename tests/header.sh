@@ -1,6 +1,7 @@
 #!/bin/sh
 # header.sh [ARCHIVE]: include/naustvri.h compiles without a warning by every standard from C89 and C++98 on; a host lends empty buffers to
-# each function of the library; and the text for each value is what the handbook's tables say. ARCHIVE: the library where it is built already.
+# each function of the library, and lets a call ring until it is answered; and the text for each value is what the handbook's tables say.
+# ARCHIVE: the library where it is built already.
 . "$(dirname "$0")/../scripts/machine.sh"
 need_compiler
 need g++=g++
@@ -53,4 +54,4 @@ fi
 sed -E 's/^((level|LFB|kind|name) [0-9]+) [A-Z_]+ /\1 /' "$out/said" | sort >"$out/header"
 [ -s "$out/handbook" ] || die "no table found in HANDBOOK.md"
 diff "$out/handbook" "$out/header"
-echo "header: no warning by $standards standards; empty buffers as promised; $(wc -l <"$out/header") texts as in the handbook"
+echo "header: no warning by $standards standards; empty buffers and a ringing call as promised; $(wc -l <"$out/header") texts as in the handbook"

@@ -1,6 +1,6 @@
-/* A host that uses the header as C89 and C++98 can: it lends empty buffers, adds offsets to sizes, and prints the text for each value.
- * An empty buffer is a null pointer in C, and what an empty vector has in C++. A line "not so" and exit status 1 say that the library
- * did otherwise than the header promises. */
+/* A host that uses the header as C89 and C++98 can: it lends empty buffers, lets a call ring until it is answered, adds offsets to sizes, and
+ * prints the text for each value. An empty buffer is a null pointer in C, and what an empty vector has in C++. A line "not so" and exit
+ * status 1 say that the library did otherwise than the header promises. */
 #include <stdio.h>
 #include <string.h>
 
@@ -128,6 +128,30 @@ static void lend_full_totals(void)
     expect(NAUSTVRI_FIGURE_ANSWERED + 64 == NAUSTVRI_FIGURES, "64 totals by number end them");
 }
 
+/* The number that an event on a route of one circuit is answered by: zero domain, LFB allowed. */
+static unsigned happen(uint8_t *circuit, uint8_t kind, uint8_t level, uint8_t identity)
+{
+    uint8_t event[NAUSTVRI_EVENT_SIZE] = {0}, answer[NAUSTVRI_ANSWER_SIZE];
+    event[NAUSTVRI_EVENT_KIND] = kind;
+    event[NAUSTVRI_EVENT_PRECEDENCE] = level;
+    event[NAUSTVRI_EVENT_REFERENCE] = identity;
+    return naustvri_event(circuit, NAUSTVRI_CIRCUIT_SIZE, event, sizeof event, answer, sizeof answer);
+}
+
+/* A ROUTINE call, and one at FLASH OVERRIDE that would take its circuit. */
+static void ring(void)
+{
+    uint8_t circuit[NAUSTVRI_CIRCUIT_SIZE] = {0};
+    expect(happen(circuit, NAUSTVRI_SET_UP, NAUSTVRI_ROUTINE, 1) == NAUSTVRI_SEIZED, "a call gets the free circuit");
+    expect(circuit[NAUSTVRI_CIRCUIT_RINGING] == 1, "it rings from its set-up on");
+    expect(happen(circuit, NAUSTVRI_SET_UP, NAUSTVRI_FLASH_OVERRIDE, 2) == NAUSTVRI_NO_CIRCUIT_PRECEDENCE, "no call takes a ringing one's circuit");
+    expect(happen(circuit, NAUSTVRI_LOOK_AHEAD, NAUSTVRI_FLASH_OVERRIDE, 2) == NAUSTVRI_NO_CIRCUIT_LOOK_AHEAD, "none reserves above it");
+    expect(happen(circuit, NAUSTVRI_ANSWERED, 0, 1) == NAUSTVRI_NOW_ANSWERED, "an answered event gives 9");
+    expect(circuit[NAUSTVRI_CIRCUIT_RINGING] == 0, "the call rings no more");
+    expect(happen(circuit, NAUSTVRI_ANSWERED, 0, 1) == NAUSTVRI_NOW_ANSWERED, "a second one gives 9 too");
+    expect(happen(circuit, NAUSTVRI_SET_UP, NAUSTVRI_FLASH_OVERRIDE, 2) == NAUSTVRI_SEIZED_WITH_LOSS, "an answered call is taken");
+}
+
 /* A record beside another, and the octet after a field, by sums of the header's constants. */
 static void add_offsets(void)
 {
@@ -178,6 +202,7 @@ int main(void)
     for (empty = 0; empty < 16; empty++)
         lend_totals(empty);
     lend_full_totals();
+    ring();
     add_offsets();
     print_all_texts();
     return failed;
