@@ -157,7 +157,7 @@ enum naustvri_name { NAUSTVRI_NAMES(NAUSTVRI_FIRST_CONSTANT, NAUSTVRI_NEXT_CONST
 #define NAUSTVRI_CIRCUIT_RESERVATION_REFERENCE 19
 #define NAUSTVRI_CIRCUIT_RESERVATION_CLOCK 24     /* 4 octets: the clock at reservation */
 #define NAUSTVRI_CIRCUIT_ZERO 28                  /* octets 28, 29 and 31: zero */
-#define NAUSTVRI_CIRCUIT_RINGING 30               /* of the holder's part: 1 while the holder rings, and the circuit is then not reserved; 0 where it is answered or absent */
+#define NAUSTVRI_CIRCUIT_RINGING 30               /* 1 while the holder rings (the circuit is then not reserved), 0 when it is answered */
 
 /* An event, 16 octets. */
 #define NAUSTVRI_EVENT_KIND 0

@@ -51,7 +51,7 @@ pub const CIRCUIT_RESERVATION_REFERENCE: usize = 19;
 pub const CIRCUIT_RESERVATION_CLOCK: usize = 24;
 /// In a circuit: octets 28, 29 and 31, zero.
 pub const CIRCUIT_ZERO: usize = 28;
-/// In a circuit: an octet of the holder's part, 1 while the holder rings, and the circuit is then not reserved; 0 where it is answered or absent.
+/// In a circuit: an octet of the holder's part, 1 while the holder rings (the circuit is then not reserved), 0 when it is answered.
 pub const CIRCUIT_RINGING: usize = 30;
 
 /// In an event: its kind.
