@@ -238,16 +238,20 @@ static bool unmarked(const uint8_t *holder)
 
 static bool holder_ok(const uint8_t *holder) { return part_ok(holder) || (unmarked(holder) && fields_ok(holder)); }
 
-/* Whether a record is as it should be by itself. */
+/* The octets of a circuit that are of no part: 28, 29 and 31, round the one that belongs to the holder's. */
+static bool spare_zero(const uint8_t *circuit) { return all_zero(circuit + NAUSTVRI_CIRCUIT_ZERO, 2) && !circuit[NAUSTVRI_CIRCUIT_RINGING + 1]; }
+
+/* Whether a record is as it should be by itself. A holder rings or does not; nobody rings on a circuit that is not held. */
 static bool circuit_ok(const uint8_t *circuit)
 {
     const uint8_t *holder = circuit + HOLDER, *reservation = circuit + RESERVATION;
-    if (!holder_ok(holder) || !part_ok(reservation) || !all_zero(circuit + NAUSTVRI_CIRCUIT_ZERO, 4))
+    uint8_t ringing = circuit[NAUSTVRI_CIRCUIT_RINGING];
+    if (!holder_ok(holder) || !part_ok(reservation) || ringing > holder[FLAG] || !spare_zero(circuit))
         return false;
     if (!reservation[FLAG])
         return all_zero(circuit + NAUSTVRI_CIRCUIT_RESERVATION_CLOCK, 4);
     return !holder[FLAG] ||
-           (reservation[LEVEL] < holder[LEVEL] && same_domain(reservation + DOMAIN, holder + DOMAIN) && !unmarked(holder));
+           (reservation[LEVEL] < holder[LEVEL] && same_domain(reservation + DOMAIN, holder + DOMAIN) && !unmarked(holder) && !ringing);
 }
 
 static bool flag_or_level_wrong(const uint8_t *part) { return part[FLAG] > 1 || (part[FLAG] && part[LEVEL] > NAUSTVRI_ROUTINE); }
@@ -257,12 +261,14 @@ static bool absent_not_zero(const uint8_t *part, size_t octets) { return !part[F
 /* The first reason of a record that is not as it should be: this comes after circuit_ok, so that a sound record is looked at only once. */
 static uint8_t reason(const uint8_t *circuit)
 {
-    const uint8_t *holder = circuit + HOLDER, *reservation = circuit + RESERVATION, *rest = circuit + NAUSTVRI_CIRCUIT_ZERO;
-    if ((flag_or_level_wrong(holder) && !unmarked(holder)) || flag_or_level_wrong(reservation))
+    const uint8_t *holder = circuit + HOLDER, *reservation = circuit + RESERVATION;
+    uint8_t ringing = circuit[NAUSTVRI_CIRCUIT_RINGING];
+    if ((flag_or_level_wrong(holder) && !unmarked(holder)) || flag_or_level_wrong(reservation) || (holder[FLAG] && ringing > 1))
         return NAUSTVRI_FLAG_OR_LEVEL;
     if ((holder[FLAG] && !fields_ok(holder)) || (reservation[FLAG] && !fields_ok(reservation)))
         return NAUSTVRI_DIGIT_OR_POINT_CODE;
-    if (absent_not_zero(holder, PART_SIZE) || absent_not_zero(reservation, rest - reservation) || !all_zero(rest, 4))
+    if (absent_not_zero(holder, PART_SIZE) || (!holder[FLAG] && ringing) ||
+        absent_not_zero(reservation, NAUSTVRI_CIRCUIT_ZERO - RESERVATION) || !spare_zero(circuit))
         return NAUSTVRI_NOT_ZERO;
     return NAUSTVRI_NOT_ABOVE_HOLDER;
 }
@@ -363,6 +369,7 @@ static bool event_ok(const uint8_t *event)
     case NAUSTVRI_RELEASE:
     case NAUSTVRI_CANCEL:
     case NAUSTVRI_NO_SERVICE:
+    case NAUSTVRI_ANSWERED:
         return all_zero(parameter, NAUSTVRI_PRECEDENCE_SIZE);
     case NAUSTVRI_CLOCK:
         return all_zero(parameter, NAUSTVRI_PRECEDENCE_SIZE + NAUSTVRI_REFERENCE_SIZE);
@@ -394,8 +401,8 @@ static int choose(const uint8_t *table, size_t circuits, const uint8_t *paramete
         const uint8_t *standing = circuit + (reserved ? RESERVATION : HOLDER);
         if (standing[LEVEL] <= level_in(parameter) || !same_domain(standing + DOMAIN, domain_in(parameter)))
             continue;
-        /* A holder whose mark is off has the zero domain, and no call of that domain beats it. */
-        if (standing[LEVEL] == NAUSTVRI_NO_PRECEDENCE)
+        /* A holder whose mark is off has the zero domain, and no call of that domain beats it; nor is a holder taken while it rings. */
+        if (standing[LEVEL] == NAUSTVRI_NO_PRECEDENCE || circuit[NAUSTVRI_CIRCUIT_RINGING])
             continue;
         int rank = 2 * standing[LEVEL] + !held;
         if (rank > best_rank) {
@@ -433,7 +440,11 @@ static void fill_part(uint8_t *part, const struct call *call)
     memcpy(part + REFERENCE, call->reference, NAUSTVRI_REFERENCE_SIZE);
 }
 
-static void empty_holder(uint8_t *circuit) { memset(circuit + HOLDER, 0, PART_SIZE); }
+static void empty_holder(uint8_t *circuit)
+{
+    memset(circuit + HOLDER, 0, PART_SIZE);
+    circuit[NAUSTVRI_CIRCUIT_RINGING] = 0;
+}
 
 static void empty_reservation(uint8_t *circuit) { memset(circuit + RESERVATION, 0, NAUSTVRI_CIRCUIT_ZERO - RESERVATION); }
 
@@ -465,6 +476,7 @@ static uint8_t set_up(uint8_t *table, size_t circuits, const struct call *call, 
         lose(answer, NAUSTVRI_ANSWER_RESERVATION_LOST, circuit + RESERVATION);
     empty_reservation(circuit);
     fill_part(circuit + HOLDER, call);
+    circuit[NAUSTVRI_CIRCUIT_RINGING] = 1;
     return number;
 }
 
@@ -525,6 +537,16 @@ static uint8_t unmark(uint8_t *table, size_t circuits, const struct call *call, 
     return NAUSTVRI_UNMARKED;
 }
 
+/* The called party has answered: the holder rings no more. */
+static uint8_t stop_ringing(uint8_t *table, size_t circuits, const struct call *call, uint8_t *answer)
+{
+    int place = find(table, circuits, HOLDER, call->reference);
+    if (place == NONE)
+        return refuse(answer, NAUSTVRI_NOT_PRESENT);
+    table[place * NAUSTVRI_CIRCUIT_SIZE + NAUSTVRI_CIRCUIT_RINGING] = 0;
+    return write_answer(answer, NAUSTVRI_NOW_ANSWERED, NAUSTVRI_CAUSE_NONE, (unsigned)place);
+}
+
 static uint8_t take_clock(uint8_t *table, size_t circuits, const struct call *call, uint8_t *answer)
 {
     unsigned removed = 0;
@@ -560,6 +582,8 @@ static uint8_t apply(uint8_t *table, size_t circuits, const struct naustvri_chec
         return cancel(table, circuits, &call, answer);
     case NAUSTVRI_NO_SERVICE:
         return unmark(table, circuits, &call, answer);
+    case NAUSTVRI_ANSWERED:
+        return stop_ringing(table, circuits, &call, answer);
     default:
         return take_clock(table, circuits, &call, answer);
     }
