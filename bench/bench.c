@@ -1,5 +1,5 @@
-/* The benchmark: calls the library and plain C on the same octets, ends with status 1 where their results differ, and sets a mark
- * before and after each counted call. For each pair of marks it writes one line, tab between: what is counted, circuits, side, the
+/* The benchmark: calls the library and plain C on the same octets, ends with status 1 where their results differ or too few events take a
+ * circuit, and sets a mark before and after each counted call. For each pair of marks it writes one line, tab between: what is counted, circuits, side, the
  * number of events that the call stands for. What is over no circuits begins with the title of its table. Lines that begin with
  * "stack" or "answers" have no marks. */
 #include <stdio.h>
@@ -61,6 +61,15 @@ static void must_be_equal(const char *what, const void *a, const void *b, size_t
     if (memcmp(a, b, octets) == 0)
         return;
     fprintf(stderr, "bench: the library and plain C differ: %s\n", what);
+    exit(1);
+}
+
+/* The budgets are for traffic in which at least one event in ten takes a circuit. */
+static void must_take(const char *what, size_t taken, size_t events)
+{
+    if (10 * taken >= events)
+        return;
+    fprintf(stderr, "bench: only %zu of %zu events take a circuit: %s\n", taken, events, what);
     exit(1);
 }
 
@@ -154,7 +163,7 @@ static void bench_event(const char *what, const struct workload *w)
 {
     enum { APART = 128 };
     static uint8_t table[sizeof w->table], answers[APART * NAUSTVRI_ANSWER_SIZE];
-    size_t octets = w->circuits * NAUSTVRI_CIRCUIT_SIZE;
+    size_t octets = w->circuits * NAUSTVRI_CIRCUIT_SIZE, taken = 0;
     memcpy(table, w->table, octets);
     for (size_t i = 0; i < NAUSTVRI_EVENTS_MOST; i += APART) {
         const uint8_t *events = w->events + i * NAUSTVRI_EVENT_SIZE;
@@ -167,8 +176,10 @@ static void bench_event(const char *what, const struct workload *w)
         must_be_equal(what, &results[0].number, &results[1].number, 1);
         must_be_equal(what, results[0].table, results[1].table, octets);
         must_be_equal(what, results[0].answers, results[1].answers, NAUSTVRI_ANSWER_SIZE);
+        taken += results[0].number == NAUSTVRI_SEIZED_WITH_LOSS;
         plain_list(table, octets, events, APART * NAUSTVRI_EVENT_SIZE, answers, sizeof answers);
     }
+    must_take(what, taken, NAUSTVRI_EVENTS_MOST / APART);
 }
 
 static void precedences_must_be_equal(const struct naustvri_precedence *a, const struct naustvri_precedence *b)
@@ -278,8 +289,8 @@ static void bench_optional(void)
     bench_write("optional part: write, 64 others and precedence", &behind_most);
 }
 
-/* How often each number stands in the answers of the last list. */
-static void write_answer_counts(const struct workload *w)
+/* How often each number stands in the answers of the last list; how many of its events take a circuit. */
+static size_t write_answer_counts(const struct workload *w)
 {
     unsigned counts[256] = {0};
     for (size_t i = 0; i < NAUSTVRI_EVENTS_MOST; i++)
@@ -287,6 +298,7 @@ static void write_answer_counts(const struct workload *w)
     for (int number = 0; number < 256; number++)
         if (counts[number])
             printf("answers\t%s\t%zu\t%d\t%u\n", w->name, w->circuits, number, counts[number]);
+    return counts[NAUSTVRI_SEIZED_WITH_LOSS];
 }
 
 /* The measured callers: one for each entry, over the greatest table or the longest part. */
@@ -415,11 +427,15 @@ int main(void)
             workloads[j](&work, sizes[i]);
             snprintf(what, sizeof what, "%s, an event", work.name);
             bench_list(what, &work);
-            write_answer_counts(&work);
+            size_t taken = write_answer_counts(&work);
+            if (workloads[j] != make_full_table)
+                must_take(what, taken, NAUSTVRI_EVENTS_MOST);
             if (j == 0) {
                 bench_check("check, mixed table", work.table, sizes[i]);
                 make_marks_off(table, sizes[i]);
                 bench_check("check, every mark off", table, sizes[i]);
+                make_all_ringing(table, sizes[i]);
+                bench_check("check, every holder ringing", table, sizes[i]);
                 bench_lamps("lamp map, mixed table", work.table, sizes[i]);
                 bench_event("one event alone, mixed", &work);
                 bench_figures("figures of a mixed list, an event", &work);

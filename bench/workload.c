@@ -69,8 +69,8 @@ static unsigned some_level(void)
 /* Three calls of four are in the first domain. */
 static unsigned some_domain(void) { return below(4) == 0; }
 
-/* Makes `event` one about a call that stands in the table: in the part at `flag` of some circuit that has the part at `beside` too, where one
- * is met soon. */
+/* Makes `event` one about a call that stands in the table: in the part at `flag` of some circuit whose flag at `beside` is 1 too, where one is met
+ * soon. */
 static void name_a_part(uint8_t *event, const struct workload *w, const uint8_t *table, size_t flag, size_t beside)
 {
     for (int tries = 0; tries < 64; tries++) {
@@ -90,10 +90,10 @@ typedef void make_one(uint8_t *event, const struct workload *w, const uint8_t *t
 static uint32_t clock_at(uint32_t call) { return 12 * call; }
 
 /* The route is run in before the list begins; the list is made a few events at a time from the table as it stands then, so that
- * most releases and cancels find their call. */
+ * most events about a call that is there find it. */
 static void make_list(struct workload *w, make_one *make)
 {
-    enum { AT_ONCE = 16 };
+    enum { AT_ONCE = 4 };
     static uint8_t table[sizeof w->table], answers[AT_ONCE * NAUSTVRI_ANSWER_SIZE], events[AT_ONCE * NAUSTVRI_EVENT_SIZE];
     size_t octets = w->circuits * NAUSTVRI_CIRCUIT_SIZE;
     uint32_t call = (uint32_t)w->circuits, run_in = 8 * (uint32_t)w->circuits;
@@ -117,24 +117,27 @@ static void begin(struct workload *w, const char *name, size_t circuits)
     w->circuits = circuits;
 }
 
-/* Of a hundred events 30 releases, 14 look-aheads, 6 cancels, 2 clocks, 8 set-ups of reservers and 40 of new calls. */
+/* Of a hundred events 14 releases, 26 answered, 5 look-aheads, 2 cancels, 2 clocks, 4 set-ups of reservers and 47 of new calls. */
 static void make_mixed_event(uint8_t *event, const struct workload *w, const uint8_t *table, uint32_t call)
 {
     unsigned die = below(100), level = some_level(), domain = some_domain();
     uint32_t clock = clock_at(call);
     if (die < 2) {
         make_event(event, NAUSTVRI_CLOCK, 0, 0, 0, clock);
-    } else if (die < 32) {
+    } else if (die < 16) {
         make_event(event, NAUSTVRI_RELEASE, 0, 0, call, clock);
         name_a_part(event, w, table, NAUSTVRI_CIRCUIT_HELD, NAUSTVRI_CIRCUIT_HELD);
-    } else if (die < 38) {
+    } else if (die < 18) {
         make_event(event, NAUSTVRI_CANCEL, 0, 0, call, clock);
         name_a_part(event, w, table, NAUSTVRI_CIRCUIT_RESERVED, NAUSTVRI_CIRCUIT_RESERVED);
-    } else if (die < 52) {
+    } else if (die < 44) {
+        make_event(event, NAUSTVRI_ANSWERED, 0, 0, call, clock);
+        name_a_part(event, w, table, NAUSTVRI_CIRCUIT_HELD, NAUSTVRI_CIRCUIT_RINGING);
+    } else if (die < 49) {
         make_event(event, NAUSTVRI_LOOK_AHEAD, level == NAUSTVRI_ROUTINE ? NAUSTVRI_PRIORITY : level, domain, call, clock);
     } else {
         make_event(event, NAUSTVRI_SET_UP, level, domain, call, clock);
-        if (die < 60)
+        if (die < 53)
             name_a_part(event, w, table, NAUSTVRI_CIRCUIT_RESERVED, NAUSTVRI_CIRCUIT_RESERVED);
     }
 }
@@ -171,29 +174,34 @@ static const uint8_t *standing(const uint8_t *circuit)
     return circuit + (circuit[NAUSTVRI_CIRCUIT_RESERVED] ? NAUSTVRI_CIRCUIT_RESERVED : NAUSTVRI_CIRCUIT_HELD);
 }
 
-/* Looks at a few circuits, and a call one level above the lowest of them comes, one in five as a look-ahead. A free circuit is filled
- * by ROUTINE; where only FLASH OVERRIDE is met, its call goes and ROUTINE fills the circuit. */
+/* Looks at a few circuits, and a call one level above the lowest of them comes, one in five as a look-ahead; while the lowest rings, it is
+ * answered instead. A free circuit is filled by ROUTINE; where only FLASH OVERRIDE is met, its call goes and ROUTINE fills the circuit. */
 static void make_taking_event(uint8_t *event, const struct workload *w, const uint8_t *table, uint32_t call)
 {
     static int emptied;
-    const uint8_t *lowest = standing(table);
+    const uint8_t *circuit = table, *lowest = standing(circuit);
     for (int looks = 0; looks < 8 && lowest[0]; looks++) {
-        const uint8_t *part = standing(table + below((unsigned)w->circuits) * NAUSTVRI_CIRCUIT_SIZE);
-        if (!part[0] || part[1] >= lowest[1])
-            lowest = part;
+        const uint8_t *other = table + below((unsigned)w->circuits) * NAUSTVRI_CIRCUIT_SIZE, *part = standing(other);
+        if (part[0] && part[1] < lowest[1])
+            continue;
+        circuit = other;
+        lowest = part;
     }
     uint32_t clock = clock_at(call);
     if (emptied || !lowest[0]) {
         emptied = 0;
         make_event(event, NAUSTVRI_SET_UP, NAUSTVRI_ROUTINE, some_domain(), call, clock);
-    } else if (lowest[1] != NAUSTVRI_FLASH_OVERRIDE) {
+    } else if (lowest[1] == NAUSTVRI_FLASH_OVERRIDE) {
+        emptied = 1;
+        make_event(event, circuit[NAUSTVRI_CIRCUIT_RESERVED] ? NAUSTVRI_CANCEL : NAUSTVRI_RELEASE, 0, 0, call, clock);
+        memcpy(event + NAUSTVRI_EVENT_REFERENCE, lowest + 7, NAUSTVRI_REFERENCE_SIZE);
+    } else if (circuit[NAUSTVRI_CIRCUIT_RINGING]) {
+        make_event(event, NAUSTVRI_ANSWERED, 0, 0, call, clock);
+        memcpy(event + NAUSTVRI_EVENT_REFERENCE, lowest + 7, NAUSTVRI_REFERENCE_SIZE);
+    } else {
         make_event(event, below(5) ? NAUSTVRI_SET_UP : NAUSTVRI_LOOK_AHEAD, 0, 0, call, clock);
         memcpy(event + NAUSTVRI_EVENT_PRECEDENCE, lowest + 1, NAUSTVRI_PRECEDENCE_SIZE);
         event[NAUSTVRI_EVENT_PRECEDENCE]--;
-    } else {
-        emptied = 1;
-        make_event(event, (lowest - table) % NAUSTVRI_CIRCUIT_SIZE ? NAUSTVRI_CANCEL : NAUSTVRI_RELEASE, 0, 0, call, clock);
-        memcpy(event + NAUSTVRI_EVENT_REFERENCE, lowest + 7, NAUSTVRI_REFERENCE_SIZE);
     }
 }
 
@@ -228,6 +236,16 @@ void make_marks_off(uint8_t *table, size_t circuits)
         uint8_t *holder = table + i * NAUSTVRI_CIRCUIT_SIZE + NAUSTVRI_CIRCUIT_HELD;
         make_part(holder, NAUSTVRI_NO_PRECEDENCE, 0, (uint32_t)i + 1);
         memset(holder + 2, 0, NAUSTVRI_DOMAIN_SIZE);
+    }
+}
+
+void make_all_ringing(uint8_t *table, size_t circuits)
+{
+    memset(table, 0, circuits * NAUSTVRI_CIRCUIT_SIZE);
+    for (size_t i = 0; i < circuits; i++) {
+        uint8_t *circuit = table + i * NAUSTVRI_CIRCUIT_SIZE;
+        make_part(circuit + NAUSTVRI_CIRCUIT_HELD, NAUSTVRI_ROUTINE, 0, (uint32_t)i + 1);
+        circuit[NAUSTVRI_CIRCUIT_RINGING] = 1;
     }
 }
 

@@ -12,23 +12,27 @@ struct workload {
     uint8_t events[NAUSTVRI_EVENTS_MOST * NAUSTVRI_EVENT_SIZE];
 };
 
-/* Set-ups, releases, look-aheads, cancels and clocks in two domains over a route that is nearly always full. */
+/* Set-ups, calls that are answered, releases, look-aheads, cancels and clocks in two domains over a route that is nearly always full. */
 void make_mixed(struct workload *w, size_t circuits);
 
 /* The same, and three of a hundred events take the mark off a holder: some with the reservation above it, a few from one whose mark is off
  * already. From then on nobody takes the circuit before its release. */
 void make_mixed_without_service(struct workload *w, size_t circuits);
 
-/* A full route on which two events of five take a circuit, or reserve it above its holder; most others empty and fill one. */
+/* A full route on which one event of four takes a circuit; the others are answered calls, reservations above a holder, and calls that empty and
+ * fill a circuit. */
 void make_take_heavy(struct workload *w, size_t circuits);
 
-/* A route full of the highest level: every search goes to the end and every event but the clock is refused. */
+/* A route full of answered calls of the highest level: every search goes to the end and every event but the clock is refused. */
 void make_full_table(struct workload *w, size_t circuits);
 
 /* A table whose every circuit is held by a call whose mark is off. */
 void make_marks_off(uint8_t *table, size_t circuits);
 
-/* A table whose every circuit has a holder and a reservation, so that the most references stand in it. */
+/* A table whose every circuit is held by a ROUTINE call that rings. */
+void make_all_ringing(uint8_t *table, size_t circuits);
+
+/* A table whose every circuit has an answered holder and a reservation, so that the most references stand in it. */
 void make_all_parts(uint8_t *table, size_t circuits);
 
 /* The same with references drawn at random, others for each draw. */
