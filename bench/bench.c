@@ -1,7 +1,7 @@
 /* The benchmark: calls the library and plain C on the same octets, ends with status 1 where their results differ or too few events take a
- * circuit, and sets a mark before and after each counted call. For each pair of marks it writes one line, tab between: what is counted, circuits, side, the
- * number of events that the call stands for. What is over no circuits begins with the title of its table. Lines that begin with
- * "stack" or "answers" have no marks. */
+ * circuit, and sets a mark before and after each counted call. For each pair of marks it writes one line, tab between: what is counted,
+ * circuits, side, the number of events that the call stands for. What is over no circuits begins with the title of its table. Lines that
+ * begin with "stack" or "answers" have no marks. */
 #include <stdio.h>
 #include <stdlib.h>
 #include <string.h>
