@@ -13,13 +13,14 @@ static uint8_t table[CIRCUITS * NAUSTVRI_CIRCUIT_SIZE], event[2 * NAUSTVRI_EVENT
 /* A step of a script, with its digits:
  *
  *   sLC lLC     set-up, look-ahead of call C at level L, LFB "allowed"
- *   rC cC k nC  release, cancel of call C; clock; no-service of call C
+ *   rC cC k     release, cancel of call C; clock
+ *   nC aC       no-service, answered of call C
  *   @N=XX       changes octet N of the event that the step before it made, before that is applied
  *   #N=XX       changes octet N of the table
  *   =N+L>M      copies L octets of the table, from octet N on, to octet M on */
 static void make_event(const char *step)
 {
-    static const char kinds[] = "srlckn";
+    static const char kinds[] = "srlckna";
     const char *kind = strchr(kinds, step[0]);
     if (kind == NULL)
         exit(2);
@@ -158,14 +159,18 @@ static const struct {
     {"find precedence in a part `00`", 0, NULL, empty_part},
     {"write an empty list into one octet", 0, NULL, empty_list},
     {"set up a call on a free route", 1, "s41", NULL},
-    {"set up a PRIORITY call on a route full of ROUTINE calls", 2, "s41 s42 s33", NULL},
+    {"set up a PRIORITY call on a route full of ROUTINE calls that were answered", 2, "s41 s42 a1 a2 s33", NULL},
+    {"look ahead at PRIORITY, then set another call up at IMMEDIATE, on a route of one circuit", 1, "l31 s22", NULL},
     {"look ahead at PRIORITY, LFB \"allowed\", on a free route", 1, "l31", NULL},
     {"look ahead at PRIORITY, then at IMMEDIATE with another reference, on a route of one circuit", 1, "l31 l22", NULL},
     {"release a call that holds a circuit", 1, "s41 r1", NULL},
     {"cancel a reservation", 1, "l31 c1", NULL},
     {"any clock event", 1, "k", NULL},
     {"set up a call, then send no-service for it", 1, "s41 n1", NULL},
-    {"look ahead above a holder, then send no-service for the holder", 1, "s41 l32 n1", NULL},
+    {"look ahead above a holder that was answered, then send no-service for the holder", 1, "s41 a1 l32 n1", NULL},
+    {"set up a call, then send answered for it", 1, "s41 a1", NULL},
+    {"send answered for it again", 1, "s41 a1 a1", NULL},
+    {"set up a call, send no-service for it, then answered", 1, "s41 n1 a1", NULL},
     {"an event of 15 octets", 0, NULL, short_event},
     {"a table of 33 octets", 0, NULL, long_table},
     {"a list with one answer place too few", 0, NULL, short_list},
@@ -185,17 +190,23 @@ static const struct {
     {"a set-up with a digit `a`", 1, "s31@2=0a", NULL},
     {"a release whose parameter is not zero", 1, "s41 r1@1=04", NULL},
     {"a no-service event with a spare bit in its parameter", 1, "s41 n1@1=80", NULL},
+    {"an answered event with a spare bit in its parameter", 1, "s41 a1@1=80", NULL},
     {"kind 0", 1, "k@0=00", NULL},
+    {"kind 8", 1, "s41 r1@0=08", NULL},
     {"writing a point code of 16384", 0, NULL, great_point_code},
     {"find precedence in a part whose precedence has five octets", 0, NULL, five_octets},
     {"write a list with a name 0", 0, NULL, name_zero},
     {"set octet 0 of a circuit to 2", 1, "#0=02 k", NULL},
+    {"hold a circuit, then set octet 30 of it to 2", 1, "s41 #30=02 k", NULL},
     {"hold a circuit, then set octet 1 of it to 15 and octet 6 to 1", 1, "s41 #1=0f #6=01 k", NULL},
     {"reserve a circuit, then set octet 13 of it to 15", 1, "l31 #13=0f k", NULL},
     {"hold a circuit, then set octet 2 of it to 0xA0", 1, "s41 #2=a0 k", NULL},
     {"set octet 28 of a circuit to 1", 1, "#28=01 k", NULL},
-    {"hold a circuit at ROUTINE, then copy its octets 0 to 11 to octets 12 to 23", 1, "s41 =0+12>12 k", NULL},
-    {"look ahead above a holder in the zero domain, then set octet 1 of the circuit to 15", 1, "s41 l32 #1=0f k", NULL},
+    {"set octet 30 of a free circuit to 1", 1, "#30=01 k", NULL},
+    {"reserve a circuit, then set octet 30 of it to 2", 1, "l31 #30=02 k", NULL},
+    {"hold a circuit at ROUTINE and send answered, then copy its octets 0 to 11 to octets 12 to 23", 1, "s41 a1 =0+12>12 k", NULL},
+    {"look ahead above a holder in the zero domain that was answered, then set octet 1 of the circuit to 15", 1, "s41 a1 l32 #1=0f k", NULL},
+    {"look ahead above a holder that was answered, then set octet 30 of the circuit to 1", 1, "s41 a1 l32 #30=01 k", NULL},
     {"hold a circuit, then copy its 32 octets to another", 2, "s41 =0+32>32 k", NULL},
     {"look ahead with octet 1 of the parameter `43`", 1, "l31@1=43", NULL},
     {"look ahead with octet 1 of the parameter `04`", 1, "l31@1=04", NULL},
@@ -203,10 +214,14 @@ static const struct {
     {"look ahead at IMMEDIATE, set the same call up at FLASH", 1, "l21 s11", NULL},
     {"release a call twice", 1, "s41 r1 r1", NULL},
     {"send no-service for a call that has only reserved", 1, "l31 n1", NULL},
+    {"send answered for a call that has only reserved", 1, "l31 a1", NULL},
+    {"send answered for a call that was released", 1, "s41 r1 a1", NULL},
     {"set up a ROUTINE call on a full route", 1, "s41 s42", NULL},
-    {"set up a PRIORITY call on a route full of PRIORITY calls", 2, "s31 s32 s33", NULL},
-    {"set up a FLASH OVERRIDE call in the zero domain on a route full of calls whose mark is off", 2, "s41 s42 n1 n2 s03", NULL},
-    {"look ahead at PRIORITY on a route full of PRIORITY calls", 2, "s31 s32 l33", NULL},
+    {"set up a PRIORITY call on a route full of PRIORITY calls that were answered", 2, "s31 s32 a1 a2 s33", NULL},
+    {"set up a FLASH OVERRIDE call on a route full of ROUTINE calls that ring", 2, "s41 s42 s03", NULL},
+    {"set up a FLASH OVERRIDE call in the zero domain on a route full of answered calls whose mark is off", 2, "s41 s42 a1 a2 n1 n2 s03", NULL},
+    {"look ahead at PRIORITY on a route full of PRIORITY calls that were answered", 2, "s31 s32 a1 a2 l33", NULL},
+    {"look ahead at FLASH OVERRIDE on a route full of ROUTINE calls that ring", 2, "s41 s42 l03", NULL},
 };
 
 int main(void)

@@ -47,7 +47,7 @@ static void print_answer(void)
     printf("\n");
 }
 
-/* The holder's part, the reservation's and the zero octets. */
+/* The holder's part, the reservation's and the last four octets, of which one belongs to the holder's. */
 static void print_circuit(const char *words)
 {
     unsigned long circuit = strtoul(words, NULL, 10);
