@@ -1,4 +1,4 @@
-// What the program figures should write, by document 02's L1, L2 and L4 and the independent implementation.
+// What the program figures should write, by document 02's L1, L2, L4 and L7 and the independent implementation.
 //
 //   figures                    the whole output, by the file circuits.bin and standard input
 //   figures TABLE EVENTS ..    the whole output, by these files

@@ -1,7 +1,7 @@
 // Tables with something wrong, or that seems so, at every entry that takes a table.
 
 use crate::case::{self, Application, Case};
-use crate::independent::{ANSWER, CIRCUIT, NO_PRECEDENCE};
+use crate::independent::{ANSWER, CIRCUIT, NO_PRECEDENCE, RINGING};
 use crate::random::Random;
 use crate::traffic::{some_size, Route};
 
@@ -30,7 +30,7 @@ fn wrong_digit_or_point_code(random: &mut Random, record: &mut [u8]) {
     }
 }
 
-// A flag that is taken away from its part, an octet that is left in an absent part, or one of the last four.
+// A flag that is taken away from its part, an octet that is left in an absent part, or one of the three that are always zero.
 fn not_zero(random: &mut Random, record: &mut [u8]) {
     let part = random.pick(&PARTS);
     let end = if part == 0 { 12 } else { 28 };
@@ -40,7 +40,7 @@ fn not_zero(random: &mut Random, record: &mut [u8]) {
             record[part..end].fill(0);
             record[part + 1 + random.below(end - part - 1)] = 1 << random.below(8);
         }
-        _ => record[28 + random.below(4)] = 1 << random.below(8),
+        _ => record[random.pick(&[28, 29, 31])] = 1 << random.below(8),
     }
 }
 
@@ -81,13 +81,28 @@ fn without_mark(random: &mut Random, record: &mut [u8]) {
     }
 }
 
-fn spoil(random: &mut Random, record: &mut [u8]) {
+// Octet 30 at 1 or above it: with a holder and with none, with a reservation and with none, or with what was there. Some of these holders ring by
+// right; a reservation that was above its holder, or at its own level, now stands above one that rings.
+fn ringing(random: &mut Random, record: &mut [u8]) {
+    record[RINGING] = random.pick(&[1, 1, 1, 1, 2, 3, 128, 254, 255]);
     match random.below(6) {
+        0 => record[..12].fill(0),
+        1 => record[0] = 1,
+        2 => record[12..28].fill(0),
+        3 => record[12] = 1,
+        4 if record[0] == 1 => record.copy_within(0..7, 12),
+        _ => {}
+    }
+}
+
+fn spoil(random: &mut Random, record: &mut [u8]) {
+    match random.below(7) {
         0 => wrong_flag_or_level(random, record),
         1 => wrong_digit_or_point_code(random, record),
         2 => not_zero(random, record),
         3 => not_above_holder(random, record),
         4 => without_mark(random, record),
+        5 => ringing(random, record),
         _ => record[random.below(CIRCUIT)] ^= 1 << random.below(8),
     }
 }

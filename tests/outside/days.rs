@@ -95,7 +95,7 @@ fn near_the_end(random: &mut Random, give: &mut dyn FnMut(Case)) {
 
 // 4,096 events that are answered alike, over a circuit that is free or held: at 2^64 - 4,097 their total comes to the greatest number there is.
 fn to_the_greatest_number(random: &mut Random, give: &mut dyn FnMut(Case)) {
-    let (kind, held, number) = random.pick(&[(0, 0, 22), (5, 0, 7), (6, 0, 27), (6, 1, 8)]);
+    let (kind, held, number) = random.pick(&[(0, 0, 22), (5, 0, 7), (6, 0, 27), (6, 1, 8), (7, 0, 27), (7, 1, 9)]);
     let mut event = [0; EVENT];
     event[0] = kind;
     let mut day = Day::new(vec![0; CIRCUIT], vec![0; TOTALS]);

@@ -1,4 +1,4 @@
-// Document 01 and document 02's L2, L4 and L6 read a second time: an implementation that shares nothing with the library, in the words of the
+// Document 01 and document 02's L2, L4, L6 and L7 read a second time: an implementation that shares nothing with the library, in the words of the
 // documents and with no eye on cost. Tables and events become plain values, the rules work on these, and the result becomes octets again.
 
 use std::cmp::Reverse;
@@ -9,6 +9,8 @@ pub const ROUTINE: u8 = 4;
 pub const NO_PRECEDENCE: u8 = 15;
 pub const RESERVATION_LIMIT: u32 = 3000;
 pub const CIRCUIT: usize = 32;
+// Where a record says whether its holder rings.
+pub const RINGING: usize = 30;
 pub const EVENT: usize = 16;
 pub const ANSWER: usize = 16;
 
@@ -30,11 +32,13 @@ pub struct Call {
     pub reference: Reference,
 }
 
-// By 02's L4 "the circuits' marks come off" where the called party is without the service: then a holder has none.
+// By 02's L4 "the circuits' marks come off" where the called party is without the service: then a holder has none. By L7 a holder rings from its
+// set-up until it is answered.
 #[derive(Clone, Copy, PartialEq, Eq, Debug)]
 pub struct Holder {
     pub mark: Option<Mark>,
     pub reference: Reference,
+    pub rings: bool,
 }
 
 #[derive(Clone, Copy, PartialEq, Eq, Debug, Default)]
@@ -67,6 +71,10 @@ impl Circuit {
 
     fn is_free(&self) -> bool {
         self.holder.is_none() && self.reservation.is_none()
+    }
+
+    fn rings(&self) -> bool {
+        self.holder.map_or(false, |holder| holder.rings)
     }
 
     fn held_by(&self, reference: Reference) -> bool {
@@ -185,7 +193,7 @@ pub struct Bad {
     pub record: usize,
 }
 
-// The holder's part and the reservation's, with the clock.
+// The holder's part but for octet 30, and the reservation's, with the clock.
 fn parts(record: &[u8]) -> [&[u8]; 2] {
     [&record[..12], &record[12..28]]
 }
@@ -198,18 +206,21 @@ fn read_call(part: &[u8]) -> Call {
     Call { mark: Mark { level: part[1], domain: five(&part[2..7]) }, reference: five(&part[7..12]) }
 }
 
-fn read_holder(part: &[u8]) -> Holder {
-    let Call { mark, reference } = read_call(part);
-    Holder { mark: (mark.level != NO_PRECEDENCE).then(|| mark), reference }
+fn read_holder(record: &[u8]) -> Holder {
+    let [holder, _] = parts(record);
+    let Call { mark, reference } = read_call(holder);
+    Holder { mark: (mark.level != NO_PRECEDENCE).then(|| mark), reference, rings: record[RINGING] == 1 }
 }
 
-// "a flag wrong, or the level of a present part"; "A table may hold level 15 with zero domain in the holder part only (else 41)"
+// "a flag wrong, or the level of a present part"; "A table may hold level 15 with zero domain in the holder part only (else 41)"; octet 30 "above 1
+// in a present one 41"
 fn flag_or_level_wrong(record: &[u8]) -> bool {
     let [holder, reservation] = parts(record);
     let flag_wrong = |part: &[u8]| ![0, 1].contains(&part[0]);
     let level_wrong = |part: &[u8]| is_present(part) && ![0, 1, 2, 3, 4].contains(&part[1]);
     let without_mark = holder[1] == NO_PRECEDENCE && zero(&holder[2..7]);
-    flag_wrong(holder) || flag_wrong(reservation) || level_wrong(holder) && !without_mark || level_wrong(reservation)
+    let ringing_wrong = is_present(holder) && ![0, 1].contains(&record[RINGING]);
+    flag_wrong(holder) || flag_wrong(reservation) || level_wrong(holder) && !without_mark || level_wrong(reservation) || ringing_wrong
 }
 
 // "a digit or point code of a present part wrong"
@@ -217,15 +228,18 @@ fn digit_or_point_code_wrong(part: &[u8]) -> bool {
     is_present(part) && (!decimal(&part[2..4]) || part[11] & 0xc0 != 0)
 }
 
-// "an absent part or spare octet not zero"
+// "an absent part or spare octet not zero"; "Octet 30 belongs to the holder's part: not zero in an absent one is reason 43", and it "is out of the
+// zero rule"
 fn not_zero(record: &[u8]) -> bool {
-    parts(record).iter().any(|part| part[0] == 0 && !zero(part)) || !zero(&record[28..])
+    let left_behind = parts(record).iter().any(|part| part[0] == 0 && !zero(part)) || record[0] == 0 && record[RINGING] != 0;
+    left_behind || !zero(&record[28..RINGING]) || !zero(&record[RINGING + 1..])
 }
 
-// "a reservation not strictly above its holder in the same domain"; level 15 "with no reservation above (else 44)"
+// "a reservation not strictly above its holder in the same domain"; level 15 "with no reservation above (else 44)"; "a reservation above a ringing
+// holder 44"
 fn not_above_holder(record: &[u8]) -> bool {
-    let [holder, reservation] = parts(record);
-    is_present(holder) && is_present(reservation) && !read_call(reservation).mark.above_holder(&read_holder(holder))
+    let ([holder, reservation], read) = (parts(record), read_holder(record));
+    is_present(holder) && is_present(reservation) && (read.rings || !read_call(reservation).mark.above_holder(&read))
 }
 
 // Every reason that a record has by itself.
@@ -250,7 +264,7 @@ fn read_circuit(record: &[u8]) -> Circuit {
     let [holder, reservation] = parts(record);
     let clock = four_octet_number(&reservation[12..]);
     Circuit {
-        holder: is_present(holder).then(|| read_holder(holder)),
+        holder: is_present(holder).then(|| read_holder(record)),
         reservation: is_present(reservation).then(|| (read_call(reservation), clock)),
     }
 }
@@ -301,7 +315,7 @@ pub fn write_table(circuits: &[Circuit]) -> Vec<u8> {
         write_part(&mut octets, circuit.holder.map(|holder| (holder.mark.unwrap_or(WITHOUT_MARK), holder.reference)));
         write_part(&mut octets, circuit.reservation.map(|(call, _)| (call.mark, call.reference)));
         octets.extend(circuit.reservation.map_or(0, |(_, clock)| clock).to_le_bytes());
-        octets.extend([0; 4]);
+        octets.extend([0, 0, circuit.rings() as u8, 0]);
     }
     octets
 }
@@ -349,6 +363,7 @@ enum Event {
     Cancel(Reference),
     Clock(u32),
     NoService(Reference),
+    Answered(Reference),
 }
 
 // None where the event is malformed.
@@ -366,6 +381,7 @@ fn read_event(octets: &[u8]) -> Option<Event> {
         4 if zero(parameter) => Some(Event::Cancel(reference)),
         5 if zero(&octets[1..12]) => Some(Event::Clock(clock)),
         6 if zero(parameter) => Some(Event::NoService(reference)),
+        7 if zero(parameter) => Some(Event::Answered(reference)),
         _ => None,
     }
 }
@@ -402,10 +418,11 @@ fn write_answer(octets: &mut [u8], answer: &Answer) {
     write_lost(&mut octets[10..16], answer.lost_reservation);
 }
 
-// The lowest-numbered free circuit; else of the takeable ones the greatest level number, one with no holder first, the lowest number.
+// The lowest-numbered free circuit; else of the takeable ones the greatest level number, one with no holder first, the lowest number. A circuit whose
+// holder rings is not takeable.
 fn choose(circuits: &[Circuit], mark: &Mark) -> Option<usize> {
     circuits.iter().position(Circuit::is_free).or_else(|| {
-        let takeable = circuits.iter().enumerate().filter_map(|(place, circuit)| {
+        let takeable = circuits.iter().enumerate().filter(|(_, circuit)| !circuit.rings()).filter_map(|(place, circuit)| {
             let standing = circuit.standing()?;
             mark.above(&standing).then(|| (standing.level, circuit.holder.is_none(), Reverse(place)))
         });
@@ -437,8 +454,10 @@ fn set_up(circuits: &mut [Circuit], call: Call) -> Answer {
         Some(place) => place,
         None => return refused(if call.mark.level == ROUTINE { 30 } else { 31 }),
     };
-    let holder = Holder { mark: Some(call.mark), reference: call.reference };
+    let holder = Holder { mark: Some(call.mark), reference: call.reference, rings: true };
     let before = std::mem::replace(&mut circuits[place], Circuit { holder: Some(holder), reservation: None });
+    // "no reservation may stand above it in a valid table": so a call that rings is not taken on a call's own reservation either.
+    assert!(!before.rings(), "a call that rings was taken: {:?} by {:?}", before, call);
     let lost_call = before.holder.map(|holder| holder.reference);
     let lost_reservation = before.reservation.map(|(reserver, _)| reserver.reference).filter(|&r| r != call.reference);
     let number = if lost_call.is_some() || lost_reservation.is_some() { 2 } else { 1 };
@@ -490,9 +509,20 @@ fn no_service(circuits: &mut [Circuit], reference: Reference) -> Answer {
     match circuits.iter().position(|c| c.held_by(reference)) {
         None => refused(27),
         Some(place) => {
-            circuits[place].holder = Some(Holder { mark: None, reference });
+            circuits[place].holder = circuits[place].holder.map(|holder| Holder { mark: None, ..holder });
             let lost_reservation = circuits[place].reservation.take().map(|(reserver, _)| reserver.reference);
             Answer { number: 8, place: Some(place), lost_call: None, lost_reservation }
+        }
+    }
+}
+
+// "A second kind 7 changes nothing and is accepted."
+fn answered(circuits: &mut [Circuit], reference: Reference) -> Answer {
+    match circuits.iter().position(|c| c.held_by(reference)) {
+        None => refused(27),
+        Some(place) => {
+            circuits[place].holder = circuits[place].holder.map(|holder| Holder { rings: false, ..holder });
+            Answer { number: 9, place: Some(place), ..Answer::default() }
         }
     }
 }
@@ -521,6 +551,7 @@ fn apply(table: &mut [u8], event: &[u8], answer: &mut [u8]) {
                 Event::Cancel(reference) => cancel(&mut circuits, reference),
                 Event::Clock(clock) => take_clock(&mut circuits, clock),
                 Event::NoService(reference) => no_service(&mut circuits, reference),
+                Event::Answered(reference) => answered(&mut circuits, reference),
             };
             table.copy_from_slice(&write_table(&circuits));
             given

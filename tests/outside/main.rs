@@ -1,5 +1,5 @@
-// Holds the library, which a program serves over pipes, to an independent implementation of document 01 and of document 02's L1, L2, L4,
-// L5 and L6.
+// Holds the library, which a program serves over pipes, to an independent implementation of document 01 and of document 02's L1, L2 and L4
+// to L7.
 //
 //   outside SEED rounds COUNT SERVER..      so many rounds
 //   outside SEED seconds COUNT SERVER..     rounds for so long, with a line now and then

@@ -1,6 +1,6 @@
-// P1 to P12 and the paper's other examples, copied from document 01 by hand, the figures of its nine events, bad tables worked out by the
-// words of document 02's L2 and L4, events by those of L4, optional parts and lists by those of L5, and 01's test of 28, which L6 takes out: the
-// independent implementation is held to them first.
+// P1 to P12 and the paper's other examples, copied from document 01 by hand, the line that document 02's L7 adds to its listing, the figures of these
+// ten events, bad tables worked out by the words of L2, L4 and L7, events by those of L4 and L7, optional parts and lists by those of L5, and 01's
+// test of 28, which L6 takes out: the independent implementation is held to them first.
 
 use crate::independent::{Call, Check, Circuit, Holder, Mark, Precedence};
 use crate::optional::{Found, Step};
@@ -12,6 +12,7 @@ const LOOK_AHEAD: u8 = 3;
 const CANCEL: u8 = 4;
 const CLOCK: u8 = 5;
 const NO_SERVICE: u8 = 6;
+const ANSWERED: u8 = 7;
 
 // Kind, level, call identity, clock; zero domain, point code 1, LFB allowed.
 fn event(kind: u8, level: u8, identity: u8, clock: u32) -> [u8; 16] {
@@ -40,10 +41,11 @@ fn line(table: &mut [u8], event: [u8; 16]) -> (u8, u8, u16, u8) {
     (answer[0], answer[1], u16::from_le_bytes([answer[2], answer[3]]), answer[5])
 }
 
-// The nine events, each with its line.
-fn listing() -> [([u8; 16], (u8, u8, u16, u8)); 9] {
+// The ten events, each with its line: P1, the one that L7 adds, then P2 to P9.
+fn listing() -> [([u8; 16], (u8, u8, u16, u8)); 10] {
     [
         (event(SET_UP, 4, 1, 0), (1, 0, 0, 0)),
+        (event(ANSWERED, 0, 1, 0), (9, 0, 0, 0)),
         (event(LOOK_AHEAD, 2, 2, 100), (3, 0, 1, 0)),
         (event(SET_UP, 3, 3, 0), (2, 0, 0, 1)),
         (event(SET_UP, 3, 4, 0), (31, 46, 65535, 0)),
@@ -55,18 +57,18 @@ fn listing() -> [([u8; 16], (u8, u8, u16, u8)); 9] {
     ]
 }
 
-// Of the nine events three are seizures, and a PRIORITY call took a circuit from a ROUTINE one; two circuits are held at the end.
+// Of the ten events three are seizures, and a PRIORITY call took a circuit from a ROUTINE one; two circuits are held at the end.
 fn hold_figures() {
     let events = listing().map(|(event, _)| event).concat();
     let mut wanted = [0; figures::TOTALS];
     for (place, total) in [(0, 1), (2, 3), (4, 1), (5, 2), (6 + 5 * 3 + 4, 1)] {
         wanted[place] = total;
     }
-    for (number, total) in [(1, 2), (2, 1), (3, 1), (7, 2), (27, 1), (30, 1), (31, 1)] {
+    for (number, total) in [(1, 2), (2, 1), (3, 1), (7, 2), (9, 1), (27, 1), (30, 1), (31, 1)] {
         wanted[31 + number] = total;
     }
     let (mut table, mut totals) = ([0; 64], [0; figures::TOTALS]);
-    assert_eq!(figures::figures(&mut table, &events, &mut [0; 9 * 16], &mut totals), 0);
+    assert_eq!(figures::figures(&mut table, &events, &mut [0; 10 * 16], &mut totals), 0);
     assert_eq!(totals, wanted);
 }
 
@@ -146,6 +148,56 @@ const WITHOUT_MARK: &[BadTable] = &[
     (&[(1, 15), (28, 1)], 43, 0),
 ];
 
+// A third record that is reserved by call 4 at IMMEDIATE, with no holder, and an octet 30.
+const fn reserved_alone(ringing: u8) -> [(usize, u8); 5] {
+    [(76, 1), (77, 2), (83, 4), (86, 1), (94, ringing)]
+}
+
+// Octet 30, by the rows of L7: with a holder and with none, with a reservation and with none; then beside another fault of the record.
+const RINGING: &[BadTable] = &[
+    (&[(62, 1)], 0, 65535),
+    (&[(62, 2)], 41, 1),
+    (&[(62, 3)], 41, 1),
+    (&[(62, 128)], 41, 1),
+    (&[(62, 255)], 41, 1),
+    (&[(30, 2)], 41, 0),
+    (&[(30, 255)], 41, 0),
+    (&[(94, 1)], 43, 2),
+    (&[(94, 2)], 43, 2),
+    (&[(94, 255)], 43, 2),
+    (&reserved_alone(0), 0, 65535),
+    (&reserved_alone(1), 43, 2),
+    (&reserved_alone(2), 43, 2),
+    (&reserved_alone(255), 43, 2),
+    (&[(30, 1)], 44, 0),
+    // The reservation above the ringing holder at each other level and domain, and above level 15.
+    (&[(30, 1), (13, 0)], 44, 0),
+    (&[(30, 1), (13, 4)], 44, 0),
+    (&[(30, 1), (1, 1)], 44, 0),
+    (&[(30, 1), (6, 1)], 44, 0),
+    (&[(30, 1), (1, 15)], 44, 0),
+    (&[(30, 1), (13, 5)], 41, 0),
+    (&[(30, 1), (14, 0xa0)], 42, 0),
+    (&[(30, 1), (28, 1)], 43, 0),
+    (&[(30, 1), (31, 1)], 43, 0),
+    (&[(30, 1), (19, 1)], 44, 0),
+    (&[(30, 2), (2, 0xa0)], 41, 0),
+    (&[(30, 2), (31, 1)], 41, 0),
+    (&[(30, 1), (0, 0)], 43, 0),
+    (&[(30, 1), (32, 2)], 44, 0),
+    (&[(62, 1), (33, 15)], 0, 65535),
+    (&[(62, 1), (33, 15), (38, 1)], 41, 1),
+    (&[(62, 2), (33, 15)], 41, 1),
+    (&[(62, 1), (43, 0x40)], 42, 1),
+    (&[(62, 1), (60, 1)], 43, 1),
+    (&[(62, 1), (61, 1)], 43, 1),
+    (&[(62, 1), (63, 1)], 43, 1),
+    (&[(62, 1), (39, 1)], 45, 1),
+    (&[(94, 1), (64, 2)], 41, 2),
+    (&[(94, 2), (76, 2)], 41, 2),
+    (&[(94, 1), (66, 0xa0)], 43, 2),
+];
+
 // Several things wrong: in one record, in two, and references that stand in an earlier part.
 const MORE_FAULTS: &[BadTable] = &[
     (&[(2, 0xa0), (13, 5)], 41, 0),
@@ -168,7 +220,7 @@ const MORE_FAULTS: &[BadTable] = &[
 
 // The check names the record; so does each event that is not malformed, and none changes the table.
 fn hold_bad_tables() {
-    for &(changes, number, record) in ONE_FAULT.iter().chain(WITHOUT_MARK).chain(MORE_FAULTS) {
+    for &(changes, number, record) in ONE_FAULT.iter().chain(WITHOUT_MARK).chain(RINGING).chain(MORE_FAULTS) {
         let mut table = three_records(changes);
         assert_eq!(independent::check(&table), Check { number, record }, "{:?}", changes);
         if number == 0 {
@@ -212,6 +264,82 @@ fn hold_no_service() {
     for (event, wanted) in later {
         assert_eq!(line(table, event), wanted);
     }
+}
+
+// An event, its answer as number, place, lost call and lost reservation, and octet 30 of both circuits after it.
+type Ringing = ([u8; 16], (u8, u16, u8, u8), [u8; 2]);
+
+// A route of two circuits. A call rings from its set-up on, which is on a free circuit, a taken one or its own reservation, with a holder under it and
+// without; it rings until it is answered or released, and nobody takes it or reserves above it before.
+fn ringing() -> Vec<Ringing> {
+    vec![
+        (event(SET_UP, 4, 1, 0), (1, 0, 0, 0), [1, 0]),
+        (event(LOOK_AHEAD, 3, 2, 0), (3, 1, 0, 0), [1, 0]),
+        (event(SET_UP, 3, 3, 0), (31, 65535, 0, 0), [1, 0]),
+        (event(LOOK_AHEAD, 3, 3, 0), (32, 65535, 0, 0), [1, 0]),
+        (event(SET_UP, 4, 1, 0), (25, 65535, 0, 0), [1, 0]),
+        (event(LOOK_AHEAD, 0x42, 1, 0), (23, 65535, 0, 0), [1, 0]),
+        (event(LOOK_AHEAD, 4, 1, 0), (24, 65535, 0, 0), [1, 0]),
+        (event(LOOK_AHEAD, 2, 1, 0), (25, 65535, 0, 0), [1, 0]),
+        (event(CANCEL, 0, 1, 0), (27, 65535, 0, 0), [1, 0]),
+        (event(ANSWERED, 0, 2, 0), (27, 65535, 0, 0), [1, 0]),
+        (event(ANSWERED, 0, 9, 0), (27, 65535, 0, 0), [1, 0]),
+        // A reservation with no holder is taken, then the answered FLASH call that took it, before the ringing ROUTINE one.
+        (event(SET_UP, 1, 4, 0), (2, 1, 0, 2), [1, 1]),
+        (event(ANSWERED, 0, 4, 0), (9, 1, 0, 0), [1, 0]),
+        (event(SET_UP, 0, 5, 0), (2, 1, 4, 0), [1, 1]),
+        (event(SET_UP, 0, 6, 0), (31, 65535, 0, 0), [1, 1]),
+        (event(ANSWERED, 0, 1, 0), (9, 0, 0, 0), [0, 1]),
+        (event(ANSWERED, 0, 1, 7), (9, 0, 0, 0), [0, 1]),
+        (event(LOOK_AHEAD, 2, 6, 0), (3, 0, 0, 0), [0, 1]),
+        (event(LOOK_AHEAD, 1, 7, 0), (4, 0, 0, 6), [0, 1]),
+        (event(ANSWERED, 0, 1, 0), (9, 0, 0, 0), [0, 1]),
+        (event(ANSWERED, 0, 7, 0), (27, 65535, 0, 0), [0, 1]),
+        (event(SET_UP, 1, 7, 0), (2, 0, 1, 0), [1, 1]),
+        // The mark comes off while it rings, and again, and then it is answered.
+        (event(NO_SERVICE, 0, 7, 0), (8, 0, 0, 0), [1, 1]),
+        (event(NO_SERVICE, 0, 7, 0), (8, 0, 0, 0), [1, 1]),
+        (event(ANSWERED, 0, 7, 0), (9, 0, 0, 0), [0, 1]),
+        (event(SET_UP, 0, 8, 0), (31, 65535, 0, 0), [0, 1]),
+        (event(RELEASE, 0, 7, 0), (5, 0, 0, 0), [0, 1]),
+        (event(LOOK_AHEAD, 3, 8, 0), (3, 0, 0, 0), [0, 1]),
+        (event(SET_UP, 3, 8, 0), (1, 0, 0, 0), [1, 1]),
+        (event(CLOCK, 0, 0, 5000), (7, 0, 0, 0), [1, 1]),
+        (event(RELEASE, 0, 8, 0), (5, 0, 0, 0), [0, 1]),
+        // It is answered first, and then the mark comes off.
+        (event(SET_UP, 4, 9, 0), (1, 0, 0, 0), [1, 1]),
+        (event(ANSWERED, 0, 9, 0), (9, 0, 0, 0), [0, 1]),
+        (event(NO_SERVICE, 0, 9, 0), (8, 0, 0, 0), [0, 1]),
+        (event(ANSWERED, 0, 9, 0), (9, 0, 0, 0), [0, 1]),
+        (event(RELEASE, 0, 9, 0), (5, 0, 0, 0), [0, 1]),
+        (event(RELEASE, 0, 5, 0), (5, 1, 0, 0), [0, 0]),
+    ]
+}
+
+fn hold_ringing() {
+    let table = &mut [0; 64];
+    for (event, wanted, rings) in ringing() {
+        let answer = answer(table, event);
+        assert_eq!((answer[0], u16::from_le_bytes([answer[2], answer[3]]), answer[5], answer[11]), wanted, "{:?}", event);
+        assert_eq!([table[30], table[62]], rings, "{:?}", event);
+        assert_eq!(independent::check(table).number, 0, "{:?}", event);
+    }
+    assert_eq!(table, &[0; 64]);
+
+    // Every bit of its parameter makes it malformed; the spare bits of its reference and the clock are ignored; the rest of the record stays.
+    let table = &mut three_records(&[(62, 1)]);
+    for bit in 0..48 {
+        let mut malformed = event(ANSWERED, 0, 3, 0);
+        malformed[1 + bit / 8] = 1 << (bit % 8);
+        assert_eq!(line(table, malformed), (22, 0, 65535, 0));
+        assert_eq!(table, &three_records(&[(62, 1)]));
+    }
+    let mut spare = event(ANSWERED, 0, 3, u32::MAX);
+    spare[11] = 0xc0;
+    assert_eq!(line(table, spare), (9, 0, 1, 0));
+    assert_eq!(table, &three_records(&[]));
+    assert_eq!(line(table, event(ANSWERED, 0, 1, 0)), (9, 0, 0, 0));
+    assert_eq!(table, &three_records(&[]));
 }
 
 // The optional part of an initial address message: calling party number, what to do with name 58, precedence, and the end.
@@ -349,7 +477,7 @@ fn hold_twenty_eight() {
     let (domain, another) = ([0; 5], [0, 0, 0, 0, 1]);
     let call = Call { mark: Mark { level: 3, domain }, reference: [2, 0, 0, 1, 0] };
     let refused = |holder| independent::holder_not_lower(&Circuit { holder, reservation: Some((call, 0)) }, &call);
-    let held = |mark| Some(Holder { mark, reference: [1, 0, 0, 1, 0] });
+    let held = |mark| Some(Holder { mark, reference: [1, 0, 0, 1, 0], rings: false });
     assert!(!refused(None));
     assert!(!refused(held(Some(Mark { level: 4, domain }))));
     assert!(refused(held(Some(Mark { level: 3, domain }))));
@@ -366,6 +494,7 @@ pub fn hold() {
     hold_figures();
     hold_bad_tables();
     hold_no_service();
+    hold_ringing();
     hold_twenty_eight();
     hold_parts();
     hold_steps();
@@ -383,10 +512,12 @@ pub fn hold() {
 
     let table = &mut [0; 32];
     assert_eq!(line(table, event(SET_UP, 3, 1, 0)), (1, 0, 0, 0));
+    assert_eq!(line(table, event(ANSWERED, 0, 1, 0)), (9, 0, 0, 0));
     assert_eq!(line(table, event(SET_UP, 3, 2, 0)), (31, 46, 65535, 0));
     assert_eq!(line(table, event(SET_UP, 3, 1, 0)), (25, 0, 65535, 0));
     let table = &mut [0; 32];
     assert_eq!(line(table, event(SET_UP, 4, 1, 0)), (1, 0, 0, 0));
+    assert_eq!(line(table, event(ANSWERED, 0, 1, 0)), (9, 0, 0, 0));
     let mut elsewhere = event(SET_UP, 1, 2, 0);
     elsewhere[6] = 1;
     assert_eq!(line(table, elsewhere), (31, 46, 65535, 0));

@@ -1,4 +1,5 @@
-// What the programs decide and panel should write, by document 01, document 02's L2 and L4 and the independent implementation; and cases for them.
+// What the programs decide and panel should write, by document 01, document 02's L2, L4 and L7 and the independent implementation; and cases for
+// them.
 //
 //   program decide | panel           the whole output, by the file circuits.bin and standard input
 //   program table CIRCUITS SEED      a valid table

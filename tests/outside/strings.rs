@@ -86,7 +86,7 @@ fn event(random: &mut Random, table: &[u8]) -> Vec<u8> {
         return Route::new(random).event(random, table).to_vec();
     }
     let mut octets = random.octets(EVENT);
-    octets[0] = random.below(8) as u8;
+    octets[0] = random.below(9) as u8;
     if random.once_in(2) {
         octets[1] &= 0x97;
         octets[2] &= 0x77;

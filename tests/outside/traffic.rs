@@ -4,7 +4,7 @@ use std::collections::BTreeSet;
 
 use crate::case::{Application, Case};
 use crate::independent::{self, five, Call, Circuit, Domain, Holder, Mark, Reference};
-use crate::independent::{ANSWER, CIRCUIT, EVENT, NO_PRECEDENCE, RESERVATION_LIMIT, ROUTINE};
+use crate::independent::{ANSWER, CIRCUIT, EVENT, NO_PRECEDENCE, RESERVATION_LIMIT, RINGING, ROUTINE};
 use crate::random::Random;
 
 // What the calls of one route have in common.
@@ -15,6 +15,10 @@ pub struct Route {
     highest: u8,
     // Of ten holders that a table begins with, so many have their mark off; of ten events about calls that are there, so many take it off.
     without_service_in_ten: usize,
+    // Of ten holders that a table begins with, so many ring.
+    ringing_in_ten: usize,
+    // Of ten events, so many say that a call was answered.
+    answered_in_ten: usize,
 }
 
 fn some_domain(random: &mut Random) -> Domain {
@@ -49,7 +53,9 @@ impl Route {
         }
         let clock = if random.once_in(2) { u32::MAX - random.below(9000) as u32 } else { random.next() as u32 };
         let (set_ups_in_ten, highest) = (4 + random.below(5), random.below(4) as u8);
-        Route { domains, clock, set_ups_in_ten, highest, without_service_in_ten: random.pick(&[0, 1, 2, 5]) }
+        let without_service_in_ten = random.pick(&[0, 1, 2, 5]);
+        let (ringing_in_ten, answered_in_ten) = (random.pick(&[0, 1, 3, 6]), random.pick(&[0, 1, 2, 3]));
+        Route { domains, clock, set_ups_in_ten, highest, without_service_in_ten, ringing_in_ten, answered_in_ten }
     }
 
     // The first domain is the commonest.
@@ -69,7 +75,7 @@ impl Route {
         }
     }
 
-    // A valid table with about `held` circuits in eight held and `reserved` in eight reserved.
+    // A valid table with about `held` circuits in eight held and `reserved` in eight reserved, none above a holder that rings.
     pub fn table(&self, random: &mut Random, circuits: usize, held: usize, reserved: usize) -> Vec<u8> {
         let mut seen = BTreeSet::new();
         let mut new_reference = |random: &mut Random| loop {
@@ -82,9 +88,10 @@ impl Route {
             .map(|_| {
                 let (level, domain) = (self.level(random), self.domain(random));
                 let (held, without_mark) = (random.below(8) < held, random.below(10) < self.without_service_in_ten);
+                let rings = random.below(10) < self.ringing_in_ten;
                 let mark = if without_mark { None } else { Some(Mark { level, domain }) };
-                let holder = if held { Some(Holder { mark, reference: new_reference(random) }) } else { None };
-                let reserved = random.below(8) < reserved && (!held || !without_mark && level > 0);
+                let holder = if held { Some(Holder { mark, reference: new_reference(random), rings }) } else { None };
+                let reserved = random.below(8) < reserved && (!held || !without_mark && !rings && level > 0);
                 let reserver = if held { random.below(level.max(1) as usize) as u8 } else { level };
                 let clock = self.clock.wrapping_sub(random.below(4000) as u32);
                 let mark = Mark { level: reserver, domain };
@@ -114,6 +121,7 @@ impl Route {
     pub fn event(&mut self, random: &mut Random, table: &[u8]) -> [u8; EVENT] {
         let mut event = [0; EVENT];
         let kind = match random.below(10) {
+            _ if random.below(10) < self.answered_in_ten => 7,
             n if n < self.set_ups_in_ten => random.pick(&[1, 1, 1, 3, 3]),
             _ if random.below(10) < self.without_service_in_ten => 6,
             _ => random.pick(&[2, 2, 2, 2, 2, 4, 4, 3, 3, 5]),
@@ -140,19 +148,20 @@ impl Route {
         event
     }
 
-    // A set-up or look-ahead is most often of a new call, or on its own reservation; others are of a call that is there. The level of a holder
-    // whose mark is off goes into a set-up seldom: it is no call's, and makes the event malformed.
+    // A set-up or look-ahead is most often of a new call, or on its own reservation; others are of a call that is there, answered most often one that
+    // rings. The level of a holder whose mark is off goes into a set-up seldom: it is no call's, and makes the event malformed.
     fn name_a_call(&self, random: &mut Random, table: &[u8], event: &mut [u8; EVENT]) {
         let there = match (event[0], random.below(8)) {
             (1, 0) | (3, 0) => Some(0),
             (1, 1) | (1, 2) | (3, 1) => Some(12),
             (1, _) | (3, _) | (_, 0) => None,
-            (2 | 6, 1) => Some(12),
-            (2 | 6, _) => Some(0),
+            (2 | 6 | 7, 1) => Some(12),
+            (2 | 6 | 7, _) => Some(0),
             (_, 1) => Some(0),
             (_, _) => Some(12),
         };
-        match there.and_then(|part| some_part(random, table, part)) {
+        let ringing = if event[0] == 7 && there == Some(0) && !random.once_in(4) { some_ringing(random, table) } else { None };
+        match ringing.or_else(|| some_part(random, table, there?)) {
             None => event[7..12].copy_from_slice(&some_reference(random)),
             Some(part) => {
                 event[7..12].copy_from_slice(&part[7..12]);
@@ -234,6 +243,11 @@ fn some_part<'a>(random: &mut Random, table: &'a [u8], part: usize) -> Option<&'
     (0..8).map(|_| &some_circuit(random, table)[part..]).find(|octets| octets[0] == 1)
 }
 
+// A circuit whose holder rings, where one is met soon.
+fn some_ringing<'a>(random: &mut Random, table: &'a [u8]) -> Option<&'a [u8]> {
+    (0..8).map(|_| some_circuit(random, table)).find(|circuit| circuit[RINGING] == 1)
+}
+
 // An event with something wrong, or that seems so.
 fn spoil(random: &mut Random, event: &mut [u8; EVENT]) {
     match random.below(7) {
@@ -243,7 +257,7 @@ fn spoil(random: &mut Random, event: &mut [u8; EVENT]) {
         3 => event[2 + random.below(2)] = random.octet(),
         4 => event[1 + random.below(11)] ^= 1 << random.below(8),
         5 => event[1] |= NO_PRECEDENCE,
-        _ => event[0] = random.below(8) as u8,
+        _ => event[0] = random.below(9) as u8,
     }
 }
 
