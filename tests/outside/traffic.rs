@@ -54,7 +54,7 @@ impl Route {
         let clock = if random.once_in(2) { u32::MAX - random.below(9000) as u32 } else { random.next() as u32 };
         let (set_ups_in_ten, highest) = (4 + random.below(5), random.below(4) as u8);
         let without_service_in_ten = random.pick(&[0, 1, 2, 5]);
-        let (ringing_in_ten, answered_in_ten) = (random.pick(&[0, 1, 3, 6]), random.pick(&[0, 1, 2, 3]));
+        let (ringing_in_ten, answered_in_ten) = (random.pick(&[0, 0, 2, 5]), random.pick(&[1, 1, 2, 3]));
         Route { domains, clock, set_ups_in_ten, highest, without_service_in_ten, ringing_in_ten, answered_in_ten }
     }
 
