@@ -56,8 +56,8 @@ for size in 0 1 31 33 8191 8193 8224 100000; do
 done
 
 # Reason, record, and octets in octal by their places: two circuits, of which the first is held at ROUTINE by call 1, point code 1; these
-# octets of them are then changed. Each reason in each record, two in one record, in two, a repeated reference beside another reason, and level
-# 15 where it may not stand.
+# octets of them are then changed. Each reason in each record, two in one record, in two, a repeated reference beside another reason, level 15
+# where it may not stand, and octet 30 that is too great, is left where no holder is, or is 1 under a reservation.
 while read -r reason record changes <&3; do
     { printf '\001\004\000\000\000\000\000\001\000\000\001' && zeros 53; } >circuits.bin
     for change in $changes; do
@@ -95,6 +95,20 @@ done 3<<'END'
 43 1  33=17
 44 0  1=17 12=1 13=3 19=2
 44 0  1=17 12=1 13=3 18=1 19=2
+41 0  30=2
+41 0  30=377
+41 0  12=1 13=3 19=2 30=2
+41 0  1=17 30=2
+42 0  11=100 30=1
+43 0  30=1 31=1
+43 1  62=1
+43 1  62=2
+43 1  44=1 51=2 62=1
+44 0  12=1 13=3 19=2 30=1
+44 0  12=1 13=4 19=2 30=1
+44 0  12=1 13=3 18=1 19=2 30=1
+44 0  1=17 12=1 13=3 19=2 30=1
+45 1  30=1 32=1 39=1 42=1
 END
 for record in 7 10 99 100 255; do
     { zeros $((record * 32 + 31)) && printf '\001'; } >circuits.bin
@@ -107,26 +121,57 @@ hold "01's listing"
 run_linked "$bin/decide" <events | diff "$repository/crates/decide/stdout" -
 run_linked "$bin/figures" <events | diff "$repository/crates/figures/stdout" -
 
-# A mark that comes off, with a reservation above it and with none, and a circuit that no call of the zero domain takes from then on: kind, level
-# and call of each event on a route of one circuit, and the line that document 02's L4 has for it.
-zeros 32 >circuits.bin
-cat >script <<'END'
+# play WHAT: kind, level and call of each event on a route of one circuit, and the line that decide writes for it, on standard input.
+play() {
+    zeros 32 >circuits.bin
+    cat >script
+    while read -r kind level call _; do
+        printf '%b' "\\0$kind\\0$level\\0\\0\\0\\0\\0\\0$call\\0\\0\\01\\0\\0\\0\\0\\0"
+    done <script >events
+    hold "$1"
+    sed 's/.*  //' script >wanted
+    run_linked "$bin/decide" <events | sed 1d | diff wanted -
+}
+
+# A mark comes off, with a reservation above it and with none, and no call of the zero domain takes the circuit from then on: by document 02's L4.
+play 'a mark that comes off' <<'END'
 1 4 1  1 1 0 0 - -
-3 3 2  2 3 0 0 - -
-6 0 2  3 27 0 - - -
-6 0 1  4 8 0 0 - 2/1
-6 0 1  5 8 0 0 - -
-1 0 3  6 31 46 - - -
-3 0 3  7 32 0 - - -
-2 0 1  8 5 0 0 - -
-1 0 3  9 1 0 0 - -
+7 0 1  2 9 0 0 - -
+3 3 2  3 3 0 0 - -
+6 0 2  4 27 0 - - -
+6 0 1  5 8 0 0 - 2/1
+6 0 1  6 8 0 0 - -
+1 0 3  7 31 46 - - -
+3 0 3  8 32 0 - - -
+2 0 1  9 5 0 0 - -
+1 0 3  10 1 0 0 - -
 END
-while read -r kind level call _; do
-    printf '%b' "\\0$kind\\0$level\\0\\0\\0\\0\\0\\0$call\\0\\0\\01\\0\\0\\0\\0\\0"
-done <script >events
-hold 'a mark that comes off'
-sed 's/.*  //' script >wanted
-run_linked "$bin/decide" <events | sed 1d | diff wanted -
+
+# Nobody takes a call or reserves above it before it is answered; who takes it then rings too, and so does its reserver that is set up: by L7.
+play 'a call that rings' <<'END'
+7 0 1  1 27 0 - - -
+1 4 1  2 1 0 0 - -
+1 0 2  3 31 46 - - -
+3 0 2  4 32 0 - - -
+7 1 1  5 22 0 - - -
+7 0 1  6 9 0 0 - -
+7 0 1  7 9 0 0 - -
+1 3 2  8 2 0 0 1/1 -
+1 0 3  9 31 46 - - -
+7 0 2  10 9 0 0 - -
+3 2 3  11 3 0 0 - -
+7 0 3  12 27 0 - - -
+7 0 2  13 9 0 0 - -
+1 2 3  14 2 0 0 2/1 -
+3 0 4  15 32 0 - - -
+6 0 3  16 8 0 0 - -
+7 0 3  17 9 0 0 - -
+2 0 3  18 5 0 0 - -
+3 2 4  19 3 0 0 - -
+1 1 5  20 2 0 0 - 4/1
+1 0 6  21 31 46 - - -
+2 0 5  22 5 0 0 - -
+END
 
 for circuits in 1 2 64 65 256; do
     for count in 0 1 100; do
