@@ -275,6 +275,10 @@ fn ringing() -> Vec<Ringing> {
     vec![
         (event(SET_UP, 4, 1, 0), (1, 0, 0, 0), [1, 0]),
         (event(LOOK_AHEAD, 3, 2, 0), (3, 1, 0, 0), [1, 0]),
+        (event(CANCEL, 0, 2, 0), (6, 1, 0, 0), [1, 0]),
+        (event(LOOK_AHEAD, 3, 2, 0), (3, 1, 0, 0), [1, 0]),
+        (event(CLOCK, 0, 0, 3000), (7, 1, 0, 0), [1, 0]),
+        (event(LOOK_AHEAD, 3, 2, 0), (3, 1, 0, 0), [1, 0]),
         (event(SET_UP, 3, 3, 0), (31, 65535, 0, 0), [1, 0]),
         (event(LOOK_AHEAD, 3, 3, 0), (32, 65535, 0, 0), [1, 0]),
         (event(SET_UP, 4, 1, 0), (25, 65535, 0, 0), [1, 0]),
@@ -336,7 +340,7 @@ fn hold_ringing() {
     }
     let mut spare = event(ANSWERED, 0, 3, u32::MAX);
     spare[11] = 0xc0;
-    assert_eq!(line(table, spare), (9, 0, 1, 0));
+    assert_eq!(answer(table, spare), [9, 0, 1, 0, 0, 0, 0, 0, 0, 0, 0, 0, 0, 0, 0, 0]);
     assert_eq!(table, &three_records(&[]));
     assert_eq!(line(table, event(ANSWERED, 0, 1, 0)), (9, 0, 0, 0));
     assert_eq!(table, &three_records(&[]));
