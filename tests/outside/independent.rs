@@ -238,8 +238,9 @@ fn not_zero(record: &[u8]) -> bool {
 // "a reservation not strictly above its holder in the same domain"; level 15 "with no reservation above (else 44)"; "a reservation above a ringing
 // holder 44"
 fn not_above_holder(record: &[u8]) -> bool {
-    let ([holder, reservation], read) = (parts(record), read_holder(record));
-    is_present(holder) && is_present(reservation) && (read.rings || !read_call(reservation).mark.above_holder(&read))
+    let [holder, reservation] = parts(record);
+    let may_stand_above = |holder: Holder| !holder.rings && read_call(reservation).mark.above_holder(&holder);
+    is_present(holder) && is_present(reservation) && !may_stand_above(read_holder(record))
 }
 
 // Every reason that a record has by itself.

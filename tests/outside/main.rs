@@ -16,6 +16,7 @@ mod optional;
 mod paper;
 mod parts;
 mod random;
+mod ringing;
 mod strings;
 mod traffic;
 

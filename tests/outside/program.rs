@@ -13,6 +13,7 @@ mod figures;
 mod independent;
 mod optional;
 mod random;
+mod ringing;
 mod table_file;
 mod traffic;
 

@@ -6,6 +6,7 @@ use crate::case::{Application, Case};
 use crate::independent::{self, five, Call, Circuit, Domain, Holder, Mark, Reference};
 use crate::independent::{ANSWER, CIRCUIT, EVENT, NO_PRECEDENCE, RESERVATION_LIMIT, RINGING, ROUTINE};
 use crate::random::Random;
+use crate::ringing::Ringing;
 
 // What the calls of one route have in common.
 pub struct Route {
@@ -205,16 +206,18 @@ impl Route {
         events
     }
 
-    // A list made event by event over the table as it then stands.
+    // A list made event by event over the table as it then stands, with an eye on who rings.
     pub fn list(&mut self, random: &mut Random, table: &[u8], count: usize) -> Case {
-        let (mut after, mut events, mut answers) = (table.to_vec(), Vec::new(), Vec::new());
+        let (mut after, mut events, mut answers, mut ringing) = (table.to_vec(), Vec::new(), Vec::new(), Ringing::new(table));
         for _ in 0..count {
             let event = self.event(random, &after);
             let mut answer = [0; ANSWER];
             independent::event(&mut after, &event, &mut answer);
+            ringing.heed(&event, &answer);
             events.extend(event);
             answers.extend(answer);
         }
+        ringing.hold(&after);
         let room = random.octets(answers.len());
         Application { table, events: &events, answers: &room }.list_carried_out(random, &after, &answers)
     }
