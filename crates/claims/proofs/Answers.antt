@@ -34,7 +34,7 @@ module _ (e : Event) (i c : ℕ) (y : Circuit) where
     where
       other : named e k y ≡ y
       other =
-          simp (ne-eqb k 1 (omega arith), ne-eqb k 2 (omega arith), ne-eqb k 3 (omega arith), ne-eqb k 4 (omega arith), ne-eqb k 5 (omega arith), ne-eqb k 6 (omega arith), ne-eqb k 8 (omega arith))
+          simp (ne-eqb k 1 (omega arith), ne-eqb k 2 (omega arith), ne-eqb k 3 (omega arith), ne-eqb k 4 (omega arith), ne-eqb k 5 (omega arith), ne-eqb k 6 (omega arith), ne-eqb k 8 (omega arith), ne-eqb k 9 (omega arith))
 
   -- whether somebody was lost or not
   pub after-seizure : (lost : Bool) → afterAnswer e (cond lost 2 1) i c y ≡ cond (eqb i c) (made e Seize y) y
@@ -57,6 +57,7 @@ answer-tells x n e c (Do Reserve i) = after-reserving e i c (x c) (x i .reservat
 answer-tells x n e c (Do Release i) = refl
 answer-tells x n e c (Do Cancel i) = refl
 answer-tells x n e c (Do Unmark i) = refl
+answer-tells x n e c (Do Answered i) = refl
 answer-tells x n e c Clock = refl
 
 -- in any lawful layout, from any valid table

@@ -99,6 +99,7 @@ module _ (x y : ℕ → Circuit) (n : ℕ) (e : Event) where
       omega (arith, no-seizure 2 5 (h .kind) refl, moved Release i (h .there) q)
   closed (Do Cancel i) h q = omega (arith, no-seizure 4 6 (h .kind) refl, moved Cancel i (h .there) q)
   closed (Do Unmark i) h q = omega (arith, no-seizure 6 8 (h .kind) refl, moved Unmark i (h .there) q)
+  closed (Do Answered i) h q = omega (arith, no-seizure 7 9 (h .kind) refl, moved Answered i (h .there) q)
   closed Clock h q =
       let s = unmoved Clock q (λ c. by-test (λ (z : Circuit). z .holder ≡ x c .holder) (overdue (e .clock) (x c)) (made e Cancel (x c)) (x c) (λ t. refl) (λ t. refl)) in
       omega (arith, no-seizure 5 7 h refl)

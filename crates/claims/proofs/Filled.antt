@@ -59,6 +59,7 @@ module _ (x : ℕ → Circuit) (n : ℕ) (tidy : (i : ℕ) → i < n → Tidy (x
   who-is-lost (Do Release i) h = nobody-lost 5 i
   who-is-lost (Do Cancel i) h = nobody-lost 6 i
   who-is-lost (Do Unmark i) h = record { call = λ a. refl; reservation = λ a b c. absurd (c refl) }
+  who-is-lost (Do Answered i) h = nobody-lost 9 i
   who-is-lost Clock h = nobody-lost 7 _
 
 -- over any table: one that is not valid is refused

@@ -86,6 +86,7 @@ outcome-answers x n e (Do Reserve i) = by-test Answers (x i .reservation .presen
 outcome-answers x n e (Do Release i) = refl
 outcome-answers x n e (Do Cancel i) = refl
 outcome-answers x n e (Do Unmark i) = refl
+outcome-answers x n e (Do Answered i) = refl
 outcome-answers x n e Clock = refl
 
 answered-answers : (t e : List ℕ) → Answers (answered records t e .number)

@@ -46,8 +46,8 @@ module _ (t : List ℕ) (v : valid records t ≡ true) (p : Turn) where
       let yields = holder-yields x n e i (order i (r .there)) there r in
       higher-set-up (r .set-up)
       (ap answerNumber a ∙ ap (λ (b : Bool). cond {A = ℕ} (b || anothers (e .reference) (x i .reservation) .present) 2 1) there)
-      (by-higher p _ a i (value-octets 1 i) (x i .holder) lostCall there (length-span t (32 * i + 7) 5) (above-so (e .mark) (x i .holder .mark) (yields .1)) refl)
-      (leb-true (x i .holder .mark .level .0) 4 (yields .0))
+      (by-higher p _ a i (value-octets 1 i) (x i .holder) lostCall there (length-span t (32 * i + 7) 5) (above-so (e .mark) (x i .holder .mark) (yields .2)) refl)
+      (leb-true (x i .holder .mark .level .0) 4 (yields .0)) (yields .1)
 
   by-release : (i : ℕ) → Grounds x n e (Do Release i) → p .answer ≡ answerOctets (answerOf x n e (Do Release i)) → HolderGoes i p (x i)
   unfolding answerOf
@@ -68,6 +68,7 @@ module _ (t : List ℕ) (v : valid records t ≡ true) (p : Turn) where
   at-turn c there (Do Release i) h a = at-act c there Release i (λ q. inr (by-release i h a))
   at-turn c there (Do Cancel i) h a = at-act c there Cancel i (λ q. inl (same-mark refl))
   at-turn c there (Do Unmark i) h a = at-act c there Unmark i (λ q. inl (by-no-service i h a))
+  at-turn c there (Do Answered i) h a = at-act c there Answered i (λ q. inl (same-mark refl))
   at-turn c there Clock h a =
       inl (by-test (HolderStays c p (x c)) (overdue (e .clock) (x c)) (made e Cancel (x c)) (x c) (λ z. same-mark refl) (λ z. same-mark refl))
 

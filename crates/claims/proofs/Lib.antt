@@ -16,6 +16,7 @@ pub mod Twice
 pub mod Parties
 pub mod Reservations
 pub mod Holders
+pub mod Among
 pub mod Untaken
 pub mod Alone
 pub mod Checked
@@ -23,7 +24,9 @@ pub mod Reasons
 pub mod Named
 pub mod Passed
 pub mod Filled
+pub mod OnHolder
 pub mod MarkOff
+pub mod Ringing
 pub mod Carried
 pub mod Settled
 pub mod Added

@@ -45,6 +45,7 @@ module _ (x : ℕ → Circuit) (n : ℕ) (e : Event) where
   names (Do Release i) h q = absurd (true≢false (sym q))
   names (Do Cancel i) h q = absurd (true≢false (sym q))
   names (Do Unmark i) h q = absurd (true≢false (sym q))
+  names (Do Answered i) h q = absurd (true≢false (sym q))
   names Clock h q = absurd (true≢false (sym q))
 
 lost-there : {S : Type 0} (L : Layout S) (s : S) (e : List ℕ) → answered L s e .call .present ≡ true → Names (L .view s) (L .count s) (answered L s e)

@@ -3,7 +3,7 @@ use Prim.Native.Nat.{ℕ, _<_}
 use mathlib.Core.Path.{_≡_, refl, sym, ap, ap₂, _∙_, subst}
 use mathlib.Core.Logic.{_⊎_, inl, inr}
 use mathlib.Core.Bool.{Bool, true, false, cond, true≢false}
-use mathlib.Core.List.{List, _∷_, _++_}
+use mathlib.Core.List.{List, [], _∷_, _++_}
 use native.Mathlib.Omega.{arith}
 use lib.ListN.{length}
 use lib.Dec.{eqb}
@@ -20,14 +20,14 @@ use Rattle.rules.specs.Answer.{becomes, answerOf}
 use Rattle.rules.specs.Valid.{valid}
 use Rattle.rules.specs.Run.{outcomeOf, answered, answerRecord}
 use Rattle.rules.specs.Records.{circuitAt, flag, loser, somebodyLost, answerOctets, records, circuits, answerDetail, emptyTable}
-use Rattle.claims.specs.History.{Turn, asked, afterTurn, empty, historyFrom, history}
-use Rattle.claims.specs.Lists.{tableAfter}
+use Rattle.claims.specs.History.{Turn, asked, afterTurn, empty, history}
+use Rattle.claims.specs.Lists.{EventList, tableAfter, past}
 use Rattle.claims.specs.Chosen.{Free}
 use Rattle.claims.specs.Accidents.{Own, Taken, StaysOrGoes}
 use Rattle.claims.proofs.Answers.{answer-tells}
 use Rattle.claims.proofs.Plain.{stands-in, free-so, Above, lower-so}
 use Rattle.rules.proofs.Grounds.{Open, Grounds, decided}
-use Rattle.claims.proofs.Ran.{Ran, turn-as-answered, stood}
+use Rattle.claims.proofs.Ran.{turn-as-answered, stood}
 use Rattle.claims.proofs.Start.{start-valid}
 use Rattle.claims.proofs.Demanded.{start-count, start-shows, history-then, ran-split}
 
@@ -60,6 +60,25 @@ module _ (x : ℕ → Circuit) (n : ℕ) (e : Event) (i : ℕ) where
       let standing-one = ap (λ (b : Bool). cond b (x i .reservation .mark) (x i .holder .mark)) there in
       subst (Above (e .mark)) standing-one (above-standing o (λ f. true≢false (sym there ∙ f .1)))
 
+-- ---- Q is said of circuit c, which was y before turn p and is z after it, and holds of a turn over any valid table, answered by any outcome that has
+-- its grounds
+module _ (Q : ℕ → Turn → Circuit → Circuit → Type 0) (at-turn : (t : List ℕ) → valid records t ≡ true → (p : Turn) (c : ℕ) (o : Outcome) → Grounds (circuitAt t) (circuits t) (asked p) o → p .answer ≡ answerOctets (answerOf (circuitAt t) (circuits t) (asked p) o) → Q c p (circuitAt t c) (becomes (asked p) o c (circuitAt t c))) where
+  -- what the history tells of a circuit that it showed as the table does
+  turn-tells : (t : List ℕ) → valid records t ≡ true → (p : Turn) → p .answer ≡ answerRecord records t (p .event) → (c : ℕ) → Q c p (circuitAt t c) (afterTurn p c (circuitAt t c))
+  unfolding records answerRecord answered
+  turn-tells t v p a c =
+      let x = circuitAt t in
+      let o = outcomeOf records t (asked p) in
+      subst (Q c p (x c)) (sym (turn-as-answered t p a c (x c) ∙ answer-tells x (circuits t) (asked p) c o))
+      (at-turn t v p c o (decided records t (asked p)) a)
+
+  -- it holds at each turn after any lists from an empty table
+  pub each-turn : (n : ℕ) (lists : List EventList) (before : List Turn) (p : Turn) (later : List Turn) → past (emptyTable n) lists ≡ before ++ p ∷ later → (c : ℕ) → c < n → Q c p (history before c) (history (before ++ p ∷ []) c)
+  each-turn n lists before p later split c l =
+      let s = stood p later (tableAfter (emptyTable n) lists) before (emptyTable n) (start-valid n) (λ d. empty) (start-shows n) (ran-split n lists (before ++ p ∷ later) split) in
+      subst (λ (h : ℕ → Circuit). Q c p (history before c) (h c)) (sym (history-then before p))
+      (subst (λ (y : Circuit). Q c p y (afterTurn p c y)) (s .shows .tells c (omega (arith, start-count n))) (turn-tells (s .table) (s .shows .still-valid) p (s .answer) c))
+
 -- ---- a party in this part of a circuit stays or goes
 module _ (part : Circuit → Part) (stays : ℕ → Turn → Circuit → Circuit → Type 0) (goes : ℕ → Turn → Circuit → Type 0) where
   abbrev pub After : ℕ → Turn → Circuit → Circuit → Type 0  -- of circuit c, which was y before turn p and is z after it
@@ -89,25 +108,6 @@ module _ (part : Circuit → Part) (stays : ℕ → Turn → Circuit → Circuit
       → p .answer ≡ answerOctets (answerOf (circuitAt t) (circuits t) (asked p) o)
       → After c p (circuitAt t c) (becomes (asked p) o c (circuitAt t c))
 
-  module _ (at-turn : (t : List ℕ) → valid records t ≡ true → (p : Turn) → AtTurn t p) where
-    -- what the history tells of a circuit that it showed as the table does
-    turn-tells : (t : List ℕ) → valid records t ≡ true → (p : Turn) → p .answer ≡ answerRecord records t (p .event) → (c : ℕ) → part (circuitAt t c) .present ≡ true → After c p (circuitAt t c) (afterTurn p c (circuitAt t c))
-    unfolding records answerRecord answered
-    turn-tells t v p a c there =
-        let x = circuitAt t in
-        let o = outcomeOf records t (asked p) in
-        subst (After c p (x c)) (sym (turn-as-answered t p a c (x c) ∙ answer-tells x (circuits t) (asked p) c o))
-        (at-turn t v p c there o (decided records t (asked p)) a)
-
-    -- from any valid table t, which shows circuits y
-    within : (t : List ℕ) → valid records t ≡ true → (y : ℕ → Circuit) → ((c : ℕ) → c < circuits t → circuitAt t c ≡ y c) → (before : List Turn) (p : Turn) (later : List Turn) (u : List ℕ) → Ran t (before ++ p ∷ later) u → (c : ℕ) → c < circuits t → part (historyFrom (y c) before c) .present ≡ true → After c p (historyFrom (y c) before c) (afterTurn p c (historyFrom (y c) before c))
-    within t v y q before p later u ran c l there =
-        let s = stood p later u before t v y q ran in
-        let f = s .shows .tells c l in
-        subst (λ (z : Circuit). After c p z (afterTurn p c z)) f
-        (turn-tells (s .table) (s .shows .still-valid) p (s .answer) c (ap (λ (z : Circuit). part z .present) f ∙ there))
-
-    pub stays-or-goes : StaysOrGoes part stays goes
-    stays-or-goes n lists before p later split c l there =
-        subst (λ (h : ℕ → Circuit). After c p (history before c) (h c)) (sym (history-then before p))
-        (within (emptyTable n) (start-valid n) (λ d. empty) (start-shows n) before p later (tableAfter (emptyTable n) lists) (ran-split n lists (before ++ p ∷ later) split) c (omega (arith, start-count n)) there)
+  pub stays-or-goes : ((t : List ℕ) → valid records t ≡ true → (p : Turn) → AtTurn t p) → StaysOrGoes part stays goes
+  stays-or-goes at-turn =
+      each-turn (λ c p y z. part y .present ≡ true → After c p y z) (λ t v p c o h a there. at-turn t v p c there o h a)

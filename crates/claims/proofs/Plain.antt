@@ -64,11 +64,14 @@ module _ (m : Mark) (y : Circuit) where
   abbrev holder-level : Bool  -- the holder's level is 0 to 4
   holder-level = levelOk (y .holder .mark .level .0)
 
+  abbrev yielding : Bool  -- and the holder does not ring
+  yielding = holder-level && not (y .ringing)
+
   so-lower : Lower m y → takeable m y ≡ true
   unfolding takeable
   so-lower h =
       and-both (not (free y)) (preemptable y && outranks m (standing y)) (ap not (not-so (free y) (λ f. h .occupied (free-so y f))))
-      (and-both (preemptable y) (outranks m (standing y)) (if-present (y .holder) holder-level (λ q. le-leb (y .holder .mark .level .0) 4 (h .preemptable q)))
+      (and-both (preemptable y) (outranks m (standing y)) (if-present (y .holder) yielding (λ q. and-both holder-level (not (y .ringing)) (le-leb (y .holder .mark .level .0) 4 (h .preemptable q)) (ap not (h .answered q))))
       (and-both (domains m (standing y)) (levels m (standing y)) (ap (same (m .domain)) (h .domain) ∙ same-refl (m .domain)) (lt-ltb (m .level .0) (standing y .level .0) (h .level))))
 
   pub lower-so : takeable m y ≡ true → Lower m y
@@ -79,7 +82,8 @@ module _ (m : Mark) (y : Circuit) where
       let o = above-so m (standing y) (yields .1) in
       record {
         occupied = not-free y (not-true (free y) (taken .0));
-        preemptable = λ q. leb-true (y .holder .mark .level .0) 4 (present-so (y .holder) holder-level (yields .0) q);
+        preemptable = λ q. leb-true (y .holder .mark .level .0) 4 (and-left holder-level (not (y .ringing)) (present-so (y .holder) yielding (yields .0) q));
+        answered = λ q. not-true (y .ringing) (and-right holder-level (not (y .ringing)) (present-so (y .holder) yielding (yields .0) q));
         domain = sym (o .0);
         level = o .1;
       }

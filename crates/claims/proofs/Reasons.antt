@@ -1,7 +1,7 @@
 -- The reasons, said of octets, are those of the rules.
 use Prim.Native.Nat.{ℕ, zero, suc, _+_, _*_, _/_, _%_}
 use mathlib.Core.Path.{_≡_, refl, sym, ap, ap₂, _∙_, subst, subst₃}
-use mathlib.Core.Bool.{Bool, true, false, cond, _&&_, _||_, not, or-assoc, Bool·not-not}
+use mathlib.Core.Bool.{Bool, true, false, cond, _&&_, _||_, not, and-true, or-assoc, Bool·not-not}
 use mathlib.Core.List.{List}
 use native.Mathlib.Omega.{arith}
 use lib.Dec.{eqb, leb, ltb}
@@ -9,7 +9,7 @@ use borrow.Author.Tests.{eqb-true, eqb-false, leb-true, leb-false, lt-ltb, le-lt
 use Rattle.octets.specs.Span.{span, zeros}
 use Rattle.octets.specs.Same.{same}
 use Rattle.octets.proofs.Tests.{and-assoc, by-eq, by-so}
-use Rattle.octets.proofs.Spans.{length-span, span-at, zeros-more}
+use Rattle.octets.proofs.Spans.{length-span, span-at, zeros-more, zeros-then}
 use Rattle.octets.proofs.Sames.{same-agree, same-differ}
 use Rattle.rules.specs.declared.part.Part.{Part}
 use Rattle.rules.specs.declared.search.Found.{Found}
@@ -20,10 +20,10 @@ use Rattle.rules.specs.Fields.{decimal, pointCodeOk}
 use Rattle.rules.specs.Search.{firstTo, orElse, found}
 use Rattle.rules.specs.Circuit.{sameMark, noPrecedence}
 use Rattle.rules.specs.Valid.{heldUnder, levelsOk, fieldsOk, pairOk, partNumbered, clash, repeated, recordVerdict}
-use Rattle.rules.specs.Records.{partAt, circuitAt, flagsAt, blankAt, records}
+use Rattle.rules.specs.Records.{partAt, circuitAt, holderOctets, spareOctets, flagsAt, blankAt, records}
 use Rattle.rules.proofs.Searches.{by-first}
 use Rattle.rules.proofs.Numbered.{even, odd}
-use Rattle.claims.specs.Named.{octet, holder, reservation, anyBelow, anyNotZero, anyDiffers, present, badLevel, markOff, badHolderLevel, badDigit, absentNotZero, flagOrLevel, digitOrPointCode, notZero, notAbove, standsIn, inLower, repeats}
+use Rattle.claims.specs.Named.{octet, holder, reservation, ringing, anyBelow, anyNotZero, anyDiffers, present, badLevel, markOff, badHolderLevel, badDigit, absentNotZero, notZeroAt, flagOrLevel, digitOrPointCode, notZero, notAbove, standsIn, inLower, repeats}
 
 -- ---- tests
 -- rule p holds unless reason a does
@@ -65,6 +65,9 @@ turned {a} h = ap not (h .is) ∙ Bool·not-not a
 
 by-not : (p : Bool) → Unless p (not p)
 by-not p = record { is = sym (Bool·not-not p) }
+
+by-so-not : (a : Bool) → Unless (not a) a
+by-so-not a = record { is = refl }
 
 not-above : (a b : ℕ) → Unless (leb a b) (ltb b a)
 not-above a b =
@@ -156,22 +159,39 @@ module _ (t : List ℕ) where
     levels-fine : Unless (flagsAt t i && levelsOk (circuitAt t i)) (flagOrLevel t i)
     unfolding flagsAt levelsOk
     levels-fine =
-        both-rules (both-rules (flag-fine (octet t (holder i))) (flag-fine (octet t (reservation i)))) (both-rules (holder-level-fine (holder i)) (level-fine (reservation i)))
+        both-rules
+        (three-rules (flag-fine (octet t (holder i))) (flag-fine (octet t (reservation i))) (if-present (present t (holder i)) (not-above (octet t (ringing i)) 1)))
+        (both-rules (holder-level-fine (holder i)) (level-fine (reservation i)))
 
     fields-fine : Unless (fieldsOk pointCodeOk (circuitAt t i)) (digitOrPointCode t i)
     unfolding fieldsOk
     fields-fine =
         both-rules (if-present (present t (holder i)) (field-fine (holder i))) (if-present (present t (reservation i)) (field-fine (reservation i)))
 
+    holder-zero : Unless (zeros (holderOctets t i)) (anyNotZero t (holder i) 12 || notZeroAt t (ringing i))
+    holder-zero =
+        record {
+          is = zeros-then (span t (holder i) 12) (octet t (ringing i)) ∙ both-rules (zeros-are (holder i) 12) (by-not (eqb (octet t (ringing i)) 0)) .is;
+        }
+
+    spare-zero : Unless (zeros (spareOctets t i)) (notZeroAt t (32 * i + 28) || notZeroAt t (32 * i + 29) || notZeroAt t (32 * i + 31))
+    spare-zero =
+        let zero : (o : ℕ) → Bool = λ o. eqb (octet t o) 0 in
+        record {
+          is =
+              ap (λ (b : Bool). zero (32 * i + 28) && (zero (32 * i + 29) && b)) (and-true (zero (32 * i + 31)))
+              ∙ three-rules (by-not (zero (32 * i + 28))) (by-not (zero (32 * i + 29))) (by-not (zero (32 * i + 31))) .is;
+        }
+
     blank-fine : Unless (blankAt t i) (notZero t i)
     unfolding blankAt
-    blank-fine = three-rules (absent-fine (holder i) 12) (absent-fine (reservation i) 16) (zeros-are (32 * i + 28) 4)
+    blank-fine = three-rules (if-absent (present t (holder i)) holder-zero) (absent-fine (reservation i) 16) spare-zero
 
     pair-fine : Unless (pairOk (circuitAt t i)) (notAbove t i)
     unfolding pairOk
     pair-fine =
         if-both (present t (holder i)) (present t (reservation i))
-        (three-rules (level-fine (holder i)) (same-are (reservation i + 2) (holder i + 2) 5) (by-not (ltb (octet t (reservation i + 1)) (octet t (holder i + 1)))))
+        (three-rules (if-present (present t (holder i)) (both-rules (not-above (octet t (holder i + 1)) 4) (by-so-not (eqb (octet t (ringing i)) 1)))) (same-are (reservation i + 2) (holder i + 2) 5) (by-not (ltb (octet t (reservation i + 1)) (octet t (holder i + 1)))))
 
     pub record-is : recordVerdict records t i ≡ cond (flagOrLevel t i) (Fault FlagOrLevel i) (cond (digitOrPointCode t i) (Fault DigitOrPointCode i) (cond (notZero t i) (Fault NotZero i) (cond (notAbove t i) (Fault NotAbove i) Valid)))
     unfolding recordVerdict records

@@ -44,6 +44,7 @@ by-refusal x n e P g (Do Reserve i) h = absurd (low (x i .reservation .present) 
 by-refusal x n e P g (Do Release i) h = absurd (omega arith)
 by-refusal x n e P g (Do Cancel i) h = absurd (omega arith)
 by-refusal x n e P g (Do Unmark i) h = absurd (omega arith)
+by-refusal x n e P g (Do Answered i) h = absurd (omega arith)
 by-refusal x n e P g Clock h = absurd (omega arith)
 
 refused-effect : (t : List ℕ) (e : Event) (o : Outcome) → 20 ≤ answerOf (circuitAt t) (circuits t) e o .number → effect records t e o ≡ t

@@ -94,6 +94,7 @@ module _ (t : List ℕ) (p : Turn) where
   at-turn c there (Do Release i) h a = at-act c there Release i (λ q. inl (refl, refl))
   at-turn c there (Do Cancel i) h a = at-act c there Cancel i (λ q. inr (by-cancel i q h a))
   at-turn c there (Do Unmark i) h a = at-act c there Unmark i (λ q. inr (by-no-service i q h a))
+  at-turn c there (Do Answered i) h a = at-act c there Answered i (λ q. inl (refl, refl))
   at-turn c there Clock h a =
       by-test (λ (z : Circuit). Stays (x c) z ⊎ Goes c p (x c)) (isOverdue (e .clock) (x c)) (made e Cancel (x c)) (x c)
       (λ z. inr (overdue h (ap answerNumber a) (overdue-old (e .clock) (x c) z)))

@@ -1,8 +1,8 @@
 -- A table of free circuits is valid, and shows each of them empty.
 use Prim.Native.Nat.{ℕ, _+_, _*_, _/_, _%_}
 use mathlib.Core.Path.{_≡_, sym, ap, _∙_}
-use mathlib.Core.Bool.{true, cond, _&&_}
-use mathlib.Core.List.{[]}
+use mathlib.Core.Bool.{true, cond, _&&_, _||_, not}
+use mathlib.Core.List.{[], _∷_, _++_}
 use native.Mathlib.Nat.{add-zero}
 use native.Mathlib.Omega.{arith}
 use lib.ListN.{getD}
@@ -38,19 +38,26 @@ module _ (n : ℕ) where
   pub circuit-empty : (c : ℕ) → circuitAt (emptyTable n) c ≡ empty
   circuit-empty c =
       λ d.
-      record { holder = part-empty (32 * c) d; reservation = part-empty (32 * c + 12) d; clock = value (zero-span (32 * c + 24) 4 d) }
+      record {
+        holder = part-empty (32 * c) d;
+        reservation = part-empty (32 * c + 12) d;
+        clock = value (zero-span (32 * c + 24) 4 d);
+        ringing = eqb (zero-at (32 * c + 30) d) 1;
+      }
 
   flags-empty : (c : ℕ) → flagsAt (emptyTable n) c ≡ true
   unfolding flagsAt
-  flags-empty c = λ d. leb (zero-at (32 * c) d) 1 && leb (zero-at (32 * c + 12) d) 1
+  flags-empty c =
+      λ d.
+      leb (zero-at (32 * c) d) 1 && (leb (zero-at (32 * c + 12) d) 1 && (not (eqb (zero-at (32 * c) d) 1) || leb (zero-at (32 * c + 30) d) 1))
 
   blank-empty : (c : ℕ) → blankAt (emptyTable n) c ≡ true
   unfolding blankAt
   blank-empty c =
       λ d.
-      cond (eqb (zero-at (32 * c) d) 1) true (zeros (zero-span (32 * c) 12 d))
+      cond (eqb (zero-at (32 * c) d) 1) true (zeros (zero-span (32 * c) 12 d ++ (zero-at (32 * c + 30) d ∷ [])))
       && (cond (eqb (zero-at (32 * c + 12) d) 1) true (zeros (zero-span (32 * c + 12) 16 d))
-      && zeros (zero-span (32 * c + 28) 4 d))
+      && zeros (zero-at (32 * c + 28) d ∷ zero-at (32 * c + 29) d ∷ zero-at (32 * c + 31) d ∷ []))
 
   part-numbered : (k : ℕ) → partNumbered (circuitAt (emptyTable n)) k ≡ nobody
   part-numbered k =

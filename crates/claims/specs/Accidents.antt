@@ -1,5 +1,5 @@
 -- The customer's two accidents cannot happen: a mark left on a circuit whose party is gone, and a reservation gone for no reason. Nor is
--- a holder gone for none, or taken after its mark came off, and no call is in two parts.
+-- a holder gone for none, or taken while it rings or after its mark came off, and no call is in two parts.
 use Prim.Native.Nat.{ℕ, _+_, _-_, _%_, _<_, _≤_}
 use mathlib.Core.Path.{_≡_}
 use mathlib.Core.Logic.{_⊎_}
@@ -19,7 +19,8 @@ use Rattle.claims.specs.Demand.{StandsIn}
 pub record OnlyWithParty (t : List ℕ) (c : ℕ) (y : Circuit) : Type 0 where
   -- each party on record, its mark and its reference, is the one that the history shows
   pub shows : circuitAt t c ≡ y
-  -- where the history shows no holder, every octet of the holder's part is zero; where it shows no reservation, all of the reservation's
+  -- where the history shows no holder, every octet of the holder's part is zero, octet 30 with it; where it shows no reservation, all of the
+  -- reservation's
   pub no-holder : y .holder .present ≡ false → zeros (holderOctets t c) ≡ true
   pub no-reservation : y .reservation .present ≡ false → zeros (reservationOctets t c) ≡ true
 
@@ -88,11 +89,11 @@ OldOnesGo =
 pub data HolderGoes (c : ℕ) (p : Turn) (y : Circuit) : Type 0 where
   -- a holder goes by its release, answered by 5
   released : Own 2 c (y .holder) p → answerNumber (p .answer) ≡ number.released → HolderGoes c p y
-  -- a holder of level 0 to 4 goes by a strictly higher call's set-up in the same domain, with a reservation or not, answered by 2 and the
-  -- holder's name
+  -- a holder of level 0 to 4 that does not ring goes by a strictly higher call's set-up in the same domain, with a reservation or not, answered
+  -- by 2 and the holder's name
   higher-set-up :
       asked p .kind ≡ 1 → answerNumber (p .answer) ≡ number.seizedWithLoss
-      → Taken lostCall c (y .holder) p → y .holder .mark .level .0 ≤ 4 → HolderGoes c p y
+      → Taken lostCall c (y .holder) p → y .holder .mark .level .0 ≤ 4 → y .ringing ≡ false → HolderGoes c p y
 
 -- the same party holds circuit c, which was y before turn p and is z after it
 pub data HolderStays (c : ℕ) (p : Turn) (y z : Circuit) : Type 0 where
@@ -102,21 +103,21 @@ pub data HolderStays (c : ℕ) (p : Turn) (y z : Circuit) : Type 0 where
       Own 6 c (y .holder) p → answerNumber (p .answer) ≡ number.unmarked
       → z .holder ≡ withoutPrecedence (y .holder) → HolderStays c p y z
 
--- a holder stays under its mark, or under none by its own kind 6 (02, L4); it goes only by its release or, if its level is 0 to 4, by the set-up
--- of a strictly higher call in the same domain whose answer names it: at a look-ahead "a holder stays", at a cancel "the other part stays", and a
+-- a holder stays under its mark, or under none by its own kind 6 (02, L4); it goes only by its release or, if its level is 0 to 4 and it does not
+-- ring (02, L7), by the set-up of a strictly higher call in the same domain whose answer names it: at a look-ahead "a holder stays", at a cancel "the other part stays", and a
 -- clock event takes reservations alone
 abbrev pub NoHolderLost : Type 0
 NoHolderLost = StaysOrGoes (λ y. y .holder) HolderStays HolderGoes
 
--- among these turns is the release, answered by 5 and circuit c, of the call with reference r
-pub record ReleasedAmong (c : ℕ) (r : List ℕ) (turns : List Turn) : Type 0 where
+-- among these turns is the event of kind k, accepted by number m with circuit c, of the call with reference r
+pub record OwnAmong (k m c : ℕ) (r : List ℕ) (turns : List Turn) : Type 0 where
   pub before : List Turn
   pub turn : Turn
   pub later : List Turn
   pub split : turns ≡ before ++ turn ∷ later
-  pub kind : asked turn .kind ≡ 2
+  pub kind : asked turn .kind ≡ k
   pub reference : asked turn .reference ≡ r
-  pub answer : answerNumber (turn .answer) ≡ number.released
+  pub answer : answerNumber (turn .answer) ≡ m
   pub named : answerDetail (turn .answer) ≡ c
 
 -- 02, L4: "such a holder is never takeable", in 001's words "to eliminate any chance that an MLPP call to a non-MLPP user will be preempted after
@@ -128,7 +129,7 @@ NeverTaken =
     → answerNumber (p .answer) ≡ number.unmarked
     → let c = answerDetail (p .answer) in
     let r = asked p .reference in
-    (history (before ++ p ∷ since) c .holder ≡ unmarkedCall r) ⊎ ReleasedAmong c r since
+    (history (before ++ p ∷ since) c .holder ≡ unmarkedCall r) ⊎ OwnAmong 2 number.released c r since
 
 -- call reference r stands in one part at most, where x c is what the history shows of circuit c
 pub record InOnePart (n : ℕ) (x : ℕ → Circuit) (r : List ℕ) : Type 0 where

@@ -1,4 +1,4 @@
--- This is 01, "Rules of choice", and 02, L4, in plain words and not through a search: x c is what the history shows of circuit c, of n circuits.
+-- This is 01, "Rules of choice", and 02, L4 and L7, in plain words and not through a search: x c is what the history shows of circuit c, of n circuits.
 use Prim.Native.Nat.{ℕ, _<_, _≤_}
 use mathlib.Core.Path.{_≡_}
 use mathlib.Core.Logic.{_≢_}
@@ -15,10 +15,11 @@ Free y = (y .holder .present ≡ false) × (y .reservation .present ≡ false)
 
 -- circuit y stands under a strictly lower precedence than mark m in the same domain: its standing mark is the reservation's if there is
 -- one, else the holder's, and the lower precedence has the greater level number; but a holder whose mark came off "stands there under no
--- precedence that a call could beat, also where the call's domain is zero"
+-- precedence that a call could beat, also where the call's domain is zero", and a holder that rings "makes its circuit not takeable"
 pub record Lower (m : Mark) (y : Circuit) : Type 0 where
   pub occupied : Free y → ⊥
   pub preemptable : y .holder .present ≡ true → y .holder .mark .level .0 ≤ 4
+  pub answered : y .holder .present ≡ true → y .ringing ≡ false
   pub domain : standing y .domain ≡ m .domain
   pub level : m .level .0 < standing y .level .0
 

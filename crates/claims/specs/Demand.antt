@@ -3,7 +3,8 @@
 -- nothing is refused for want of a circuit exactly if none is free and none stands under a strictly lower precedence in the same
 -- domain; else it gets the first free one, failing that the lowest-precedence one by 01's tie rule, and the losers named are exactly
 -- those the history shows there." 02, L4, adds: "Demand 3 now reads these events too: such a holder stands there under no precedence that a call
--- could beat, also where the call's domain is zero."
+-- could beat, also where the call's domain is zero." And L7: "Demand 3 counts a holder as takeable only when the history has its answered event,
+-- accepted by 9, since its set-up."
 use Prim.Native.Nat.{ℕ, _<_, _≤_}
 use mathlib.Core.Path.{_≡_}
 use mathlib.Core.Logic.{_↔_, _≢_, _⊎_}
@@ -65,8 +66,8 @@ pub record Gets (n : ℕ) (x y : ℕ → Circuit) (e : Event) (a : List ℕ) : T
   pub chosen : FirstFree x n circuit ⊎ Lowest x n (e .mark) circuit
   -- "the losers named are exactly those the history shows there"
   pub answer : a ≡ seizedOctets circuit (x circuit)
-  -- the circuit then holds the call with no reservation, and the others are as they were
-  pub holds : y circuit ≡ record { holder = caller e; reservation = nobody; clock = 0 }
+  -- the circuit then holds the call, which rings, with no reservation, and the others are as they were
+  pub holds : y circuit ≡ record { holder = caller e; reservation = nobody; clock = 0; ringing = true }
   pub others : (c : ℕ) → c < n → c ≢ circuit → y c ≡ x c
 
 -- what demand 3 says of the answer a to event e

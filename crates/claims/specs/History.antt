@@ -1,8 +1,9 @@
--- The history tells who holds and who has reserved each circuit, under which mark and since which clock, from the past events and their
--- answers alone. It looks at no table. What it takes from the rules are words for a circuit with another holder or reservation; what these come
--- to is said apart from them, by `NoMarkLeft`, `NoReservationLost`, `NoHolderLost` and `NeverTaken` (Accidents).
+-- The history tells who holds and who has reserved each circuit, under which mark and since which clock, and whether the holder rings, from
+-- the past events and their answers alone. It looks at no table. What it takes from the rules are words for a circuit with another holder or reservation; what these come
+-- to is said apart from them, by `NoMarkLeft`, `NoReservationLost`, `NoHolderLost` and `NeverTaken` (Accidents) and by `RingsUntilAnswered`
+-- (Ringing).
 use Prim.Native.Nat.{ℕ, _+_, _-_, _%_}
-use mathlib.Core.Bool.{Bool, true, cond, _&&_, _||_}
+use mathlib.Core.Bool.{Bool, true, false, cond, _&&_, _||_}
 use mathlib.Core.List.{List, [], _∷_}
 use lib.Dec.{eqb, leb}
 use Rattle.rules.specs.declared.part.Part.{Part}
@@ -29,16 +30,18 @@ unmarkedCall r = record { present = true; mark = noPrecedence; reference = r }
 -- what event e, answered by number k, makes of the circuit y that the answer names
 unfoldable pub named : Event → ℕ → Circuit → Circuit
 named e k y =
-    -- 1 / 2 seized: the call holds the circuit, with no reservation
-    cond (eqb k number.seized || eqb k number.seizedWithLoss) (withHolder (caller e) (unreserved y))
+    -- 1 / 2 seized: the call holds the circuit and rings, with no reservation
+    cond (eqb k number.seized || eqb k number.seizedWithLoss) (withHolder (caller e) true (unreserved y))
     -- 3 / 4 reserved: the call has reserved the circuit since the event's clock, and a holder stays
     (cond (eqb k number.reserved || eqb k number.reservedWithLoss) (withReservation (caller e) (e .clock) y)
     -- 5 released: nobody holds the circuit, and a reservation stays
-    (cond (eqb k number.released) (withHolder nobody y)
+    (cond (eqb k number.released) (withHolder nobody false y)
     -- 6 cancelled: nobody has reserved the circuit, and a holder stays
     (cond (eqb k number.cancelled) (unreserved y)
-    -- 8 unmarked: the same call holds the circuit under no precedence, and nobody has reserved it
-    (cond (eqb k number.unmarked) (withHolder (withoutPrecedence (y .holder)) (unreserved y)) y))))
+    -- 8 unmarked: the same call holds the circuit under no precedence, and rings if it did, and nobody has reserved it
+    (cond (eqb k number.unmarked) (withHolder (withoutPrecedence (y .holder)) (y .ringing) (unreserved y))
+    -- 9 answered: the holder rings no more, and a reservation stays
+    (cond (eqb k number.nowAnswered) (withHolder (y .holder) false y) y)))))
 
 -- the circuit has a reservation that was made 3,000 steps ago or more, modulo 4,294,967,296
 abbrev pub old : ℕ → Circuit → Bool
@@ -59,7 +62,7 @@ historyFrom y [] c = y
 historyFrom y (p ∷ ps) c = historyFrom (afterTurn p c y) ps c
 
 abbrev pub empty : Circuit  -- nobody holds the circuit, and nobody has reserved it
-empty = record { holder = nobody; reservation = nobody; clock = 0 }
+empty = record { holder = nobody; reservation = nobody; clock = 0; ringing = false }
 
 abbrev pub history : List Turn → ℕ → Circuit  -- circuit c, by all that ever was asked and answered
 history ps c = historyFrom empty ps c

@@ -4,7 +4,9 @@ pub mod Chosen
 pub mod Demand
 pub mod Accidents
 pub mod OneByOne
+pub mod OnHolder
 pub mod NoService
+pub mod Ringing
 pub mod Named
 pub mod Instance
 pub mod Figures

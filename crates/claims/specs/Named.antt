@@ -2,8 +2,9 @@
 -- digit or point code of a present part wrong; an absent part or spare octet not zero; a reservation not strictly above its holder in the
 -- same domain; a reference that stands in an earlier part. Reasons within records come first, lowest record first, in that order; the
 -- repeated reference comes after all of them and names the later record, the lowest such if several." And of a holder whose mark came off (02,
--- L4): "A table may hold level 15 with zero domain in the holder part only (else 41), with no reservation above (else 44)." Here the reasons are
--- said of octets.
+-- L4): "A table may hold level 15 with zero domain in the holder part only (else 41), with no reservation above (else 44)." And of octet 30, which
+-- is 1 while a holder rings (02, L7): "Octet 30 belongs to the holder's part: not zero in an absent one is reason 43, above 1 in a present one 41, a
+-- reservation above a ringing holder 44." Here the reasons are said of octets.
 use Prim.Native.Nat.{ℕ, zero, suc, _+_, _*_, _/_, _%_, _<_, _≤_}
 use mathlib.Core.Path.{_≡_}
 use mathlib.Core.Logic.{_↔_, _⊎_, _≢_}
@@ -29,6 +30,9 @@ holder i = 32 * i
 
 abbrev pub reservation : ℕ → ℕ  -- the octet at which the reservation's part of record i begins
 reservation i = 32 * i + 12
+
+abbrev pub ringing : ℕ → ℕ  -- the octet of record i that says whether its holder rings
+ringing i = 32 * i + 30
 
 abbrev pub anyBelow : (ℕ → Bool) → ℕ → Bool  -- f holds of some number below n
 anyBelow f zero = false
@@ -76,26 +80,43 @@ absentNotZero t o n = not (present t o) && anyNotZero t o n
 abbrev pub standsIn : List ℕ → ℕ → ℕ → Bool
 standsIn t p o = present t p && present t o && not (anyDiffers t (p + 7) (o + 7) 5)
 
+abbrev pub notZeroAt : List ℕ → ℕ → Bool  -- octet o is not zero
+notZeroAt t o = not (eqb (octet t o) 0)
+
+-- ---- octet 30, which belongs to the holder's part
+abbrev pub badRinging : List ℕ → ℕ → Bool  -- record i has a holder, and octet 30 is above 1
+badRinging t i = present t (holder i) && ltb 1 (octet t (ringing i))
+
+abbrev pub holderNotZero : List ℕ → ℕ → Bool  -- record i has no holder, and an octet of the holder's part (0-11, 30) is not zero
+holderNotZero t i = not (present t (holder i)) && (anyNotZero t (holder i) 12 || notZeroAt t (ringing i))
+
+-- record i has a holder that keeps its circuit: its level is above 4, since its mark is off, or it rings
+abbrev pub keeps : List ℕ → ℕ → Bool
+keeps t i = present t (holder i) && (ltb 4 (octet t (holder i + 1)) || eqb (octet t (ringing i)) 1)
+
 -- ---- the reasons
--- 41: a flag (octet 0 or 12) is neither 0 nor 1, or the level of a present part is above 4; but the holder's may be 15 with a zero domain
+-- 41: a flag (octet 0 or 12) is neither 0 nor 1, or octet 30 of a present holder is above 1, or the level of a present part is above 4; but the
+-- holder's may be 15 with a zero domain
 abbrev pub flagOrLevel : List ℕ → ℕ → Bool
-flagOrLevel t i = eitherPart (badFlag t) i || (badHolderLevel t (holder i) || badLevel t (reservation i))
+flagOrLevel t i =
+    eitherPart (badFlag t) i || badRinging t i || (badHolderLevel t (holder i) || badLevel t (reservation i))
 
 -- 42: a digit of the network identity of a present part is above 9, or a spare bit of its point code is set
 abbrev pub digitOrPointCode : List ℕ → ℕ → Bool
 digitOrPointCode t i = eitherPart (badField t) i
 
--- 43: an octet of an absent part (0-11, 12-27) or of 28-31 is not zero
+-- 43: an octet of an absent part (0-11 and 30, 12-27) or octet 28, 29 or 31 is not zero
 abbrev pub notZero : List ℕ → ℕ → Bool
 notZero t i =
-    absentNotZero t (holder i) 12 || absentNotZero t (reservation i) 16 || anyNotZero t (32 * i + 28) 4
+    holderNotZero t i || absentNotZero t (reservation i) 16
+    || (notZeroAt t (32 * i + 28) || notZeroAt t (32 * i + 29) || notZeroAt t (32 * i + 31))
 
--- 44: both parts are present, and the holder's level is above 4, since its mark is off, or the reservation is not strictly above the holder
--- (a smaller level number) in the same domain
+-- 44: both parts are present, and the holder keeps its circuit, or the reservation is not strictly above the holder (a smaller level number) in the
+-- same domain
 abbrev pub notAbove : List ℕ → ℕ → Bool
 notAbove t i =
     present t (holder i) && present t (reservation i)
-    && (badLevel t (holder i)
+    && (keeps t i
     || anyDiffers t (reservation i + 2) (holder i + 2) 5 || not (ltb (octet t (reservation i + 1)) (octet t (holder i + 1))))
 
 abbrev pub has : List ℕ → ℕ → ℕ → Bool  -- record i has reason k, of the four that a record has by itself

@@ -41,7 +41,7 @@ pub record ComesAsReserved (e : Event) (y : Circuit) : Type 0 where
   pub domain : e .mark .domain ≡ y .reservation .mark .domain
 
 -- ALWAYS ABOVE: on any table that the check takes, where a call comes as reserved for a circuit, nobody holds the circuit, or the holder is strictly
--- lower in the same domain and has a mark: were the reservation not there, the circuit would stand under a strictly lower precedence
+-- lower in the same domain, has a mark and does not ring: were the reservation not there, the circuit would stand under a strictly lower precedence
 abbrev pub AlwaysAbove : Type 0
 AlwaysAbove =
     (t : List ℕ) → checkNumber t ≡ done → (i : ℕ) → i < circuits t → (e : Event) → ComesAsReserved e (circuitAt t i)
@@ -74,7 +74,7 @@ among k [] = false
 among k (j ∷ js) = eqb k j || among k js
 
 abbrev pub accepting : List ℕ  -- an event is carried out
-accepting = 1 ∷ 2 ∷ 3 ∷ 4 ∷ 5 ∷ 6 ∷ 7 ∷ 8 ∷ []
+accepting = 1 ∷ 2 ∷ 3 ∷ 4 ∷ 5 ∷ 6 ∷ 7 ∷ 8 ∷ 9 ∷ []
 
 abbrev pub reasons : List ℕ  -- a table is not valid
 reasons = 41 ∷ 42 ∷ 43 ∷ 44 ∷ 45 ∷ []

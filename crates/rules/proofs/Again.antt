@@ -59,7 +59,7 @@ module _ (x : ℕ → Circuit) (n : ℕ) (e : Event) where
 -- ---- an act on the circuit that a call holds, by a kind of event and with an accepting number, that leaves the call there and that a second
 -- event of its kind does over again
 pub record Lasting (a : Act) (kind number : ℕ) : Type 0 where
-  pub low : number < 21
+  pub low : number < 20
   pub by-accepted : (x : ℕ → Circuit) (n : ℕ) (e : Event) (o : Outcome) → answerOf x n e o .number ≡ number → o ≡ Do a (answerOf x n e o .detail)
   pub by-kind : (x : ℕ → Circuit) (n : ℕ) (e : Event) → e .kind ≡ kind → decision x n e ≡ onHolder x n a e
   pub well-formed : (e : Event) → e .kind ≡ kind → e .parameterless ≡ true → wellFormed e ≡ true

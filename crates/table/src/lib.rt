@@ -8,12 +8,13 @@ use rules::part::Part;
 use rules::part::Reference;
 use rules::standing::Standing;
 ghost use mathlib.Core.Path.{_≡_};
-ghost use mathlib.Core.Bool.{true, cond, _&&_};
+ghost use mathlib.Core.Bool.{true, cond};
 ghost use Prim.Native.Nat.{_+_, _*_, _/_, _<_, _≤_};
 ghost use lib.ListN.{length};
-ghost use mathlib.Core.List.{_++_};
+ghost use mathlib.Core.List.{_∷_, _++_};
 ghost use Rattle.octets.specs.Number.{octets};
 ghost use Rattle.octets.specs.Span.{span, put, zeros};
+ghost use Rattle.octets.specs.Same.{same};
 ghost use Rattle.rules.specs.Circuit.{sameMark, noPrecedence, isOf, free, preemptable, standing, overdue};
 ghost use Rattle.rules.specs.Standing.{standingOf};
 ghost use Rattle.rules.specs.Valid.{partNumbered};
@@ -385,7 +386,7 @@ pub fn reservation_zero(t: &[u8], i: usize) -> bool
 }
 
 // Tells whether every octet of record i that belongs to no part is zero.
-pub fn spare_zero(t: &[u8], i: usize) -> bool
+fn spare_zero(t: &[u8], i: usize) -> bool
     requires { ⌜ i < circuits (now t) ⌝ }
     ensures { λ r. ⌜ r ≡ zeros (spareOctets (now (t .entry)) i) ⌝ }
 {
@@ -405,6 +406,17 @@ pub fn tail_zero(t: &[u8], i: usize) -> bool
     ensures { λ r. ⌜ r ≡ zeros (span (now (t .entry)) (circuitSize * i + 28) 4) ⌝ }
 {
     octets::zero_four(t, CIRCUIT_SIZE * i + SPARE)
+}
+
+// This is the number in octets 28 to 31 of a record where octet 30 is 1 and the others are zero.
+const RINGS: u32 = 65536;
+
+// Tells whether octet 30 of record i is 1, and octets 28, 29 and 31 are zero.
+pub fn tail_rings(t: &[u8], i: usize) -> bool
+    requires { ⌜ i < circuits (now t) ⌝ }
+    ensures { λ r. ⌜ r ≡ same (span (now (t .entry)) (circuitSize * i + 28) 4) (0 ∷ 0 ∷ stateOctets true) ⌝ }
+{
+    octets::read_four(t, CIRCUIT_SIZE * i + SPARE) == RINGS
 }
 
 // Tells whether a part is present, or its octets are zero.

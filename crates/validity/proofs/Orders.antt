@@ -9,17 +9,18 @@ use lib.Dec.{leb, eqb}
 use borrow.Author.Tests.{eqb-true, eq-eqb, le-leb, not-true}
 use Rattle.octets.specs.Span.{span, zeros}
 use Rattle.octets.proofs.Tests.{and-left, and-right, and-both, halves, by-so, by-test}
-use Rattle.octets.proofs.Spans.{agree-first, zeros-agree, zeros-then}
+use Rattle.octets.proofs.Spans.{span-at, agree-first, zeros-agree, zeros-then}
+use Rattle.octets.proofs.Sames.{same-true}
 use Rattle.rules.specs.declared.part.Part.{Part}
 use Rattle.rules.specs.declared.circuit.Circuit.{Circuit}
 use Rattle.rules.specs.declared.verdict.Verdict.the-variants.{Valid}
 use Rattle.rules.specs.Fields.{levelOk}
 use Rattle.rules.specs.Circuit.{outranks, sameMark, noPrecedence, preemptable}
 use Rattle.rules.specs.Valid.{ifPresent, heldUnder, levelsOk, fieldsOk, pairOk, recordVerdict}
-use Rattle.rules.specs.Records.{circuitSize, partAt, circuitAt, holderOctets, spareOctets, flagsAt, zeroIfAbsent, blankAt, records}
+use Rattle.rules.specs.Records.{circuitSize, partAt, circuitAt, holderOctets, reservationOctets, spareOctets, stateOctets, flagsAt, zeroIfAbsent, blankAt, records}
 use Rattle.rules.proofs.Sound.{if-present, present-so}
 use Rattle.rules.proofs.Faults.{valid-is, record-valid}
-use Rattle.validity.specs.Order.{fieldsFit, fit, partInOrder, above, ringsInOrder, tailInOrder, inOrder}
+use Rattle.validity.specs.Order.{fieldsFit, fit, partInOrder, above, tailOctets, ringsInOrder, unreservedInOrder, afterHolder, inOrder}
 
 module _ (t : List ℕ) (o w : ℕ) where
   abbrev part : Part  -- the part of w octets from octet o on
@@ -94,48 +95,54 @@ module _ (t : List ℕ) (i : ℕ) where
     under : c .reservation .present ≡ true → c .ringing ≡ false
     spare : zeros (spareOctets t i) ≡ true
 
-  tail-is : tailInOrder t i ≡ true → Tail
-  tail-is = by-test (λ (b : Bool). b ≡ true → Tail) (zeros (span t (circuitSize * i + 28) 4)) true (ringsInOrder t i) still rings
+  tail-zero : zeros (tailOctets t i) ≡ true → Tail
+  tail-zero z =
+      let zero = zeros-agree t (circuitSize * i + 28) 4 z in
+      let at : (k m : ℕ) → m ≡ circuitSize * i + 28 + k → k < 4 → getD t m 0 ≡ 0 = λ k m e l. ap (λ (m : ℕ). getD t m 0) e ∙ zero k l in
+      let none = at 2 (circuitSize * i + 30) (omega arith) (omega arith) in
+      record {
+        small = le-leb octet30 1 (omega arith);
+        nobody = λ e. eq-eqb octet30 0 none;
+        under = λ e. ap (λ (k : ℕ). eqb k 1) none;
+        spare = λ d. zeros (at 0 (circuitSize * i + 28) (omega arith) (omega arith) d ∷ at 1 (circuitSize * i + 29) (omega arith) (omega arith) d ∷ at 3 (circuitSize * i + 31) (omega arith) (omega arith) d ∷ []);
+      }
+
+  -- a holder that rings, with no reservation above
+  tail-rings : c .reservation .present ≡ false → ringsInOrder t i ≡ true → Tail
+  tail-rings free q =
+      let both = halves q in
+      let tail = same-true (tailOctets t i) (0 ∷ 0 ∷ stateOctets true) (both .1) in
+      let at : (k m : ℕ) → m ≡ circuitSize * i + 28 + k → k < 4 → getD t m 0 ≡ getD (0 ∷ 0 ∷ stateOctets true) k 0 = λ k m e l. ap (λ (m : ℕ). getD t m 0) e ∙ sym (span-at t (circuitSize * i + 28) 4 k l) ∙ ap (λ (l : List ℕ). getD l k 0) tail in
+      let one = at 2 (circuitSize * i + 30) (omega arith) (omega arith) in
+      record {
+        small = ap (λ (k : ℕ). leb k 1) one;
+        nobody = λ e. absurd (true≢false (sym (both .0) ∙ e));
+        under = λ e. absurd (true≢false (sym e ∙ free));
+        spare = λ d. zeros (at 0 (circuitSize * i + 28) (omega arith) (omega arith) d ∷ at 1 (circuitSize * i + 29) (omega arith) (omega arith) d ∷ at 3 (circuitSize * i + 31) (omega arith) (omega arith) d ∷ []);
+      }
+
+  -- the reservation's part by itself, the two together, and the last four octets
+  rest : ifPresent (c .holder) (levelOk (c .holder .mark .level .0)) ≡ true → afterHolder t i ≡ true → Tail × (partInOrder (c .reservation) (reservationOctets t i) ≡ true) × (pairOk c ≡ true)
+  rest under h = by-so (c .reservation .present) there absent
     where
-      still : zeros (span t (circuitSize * i + 28) 4) ≡ true → true ≡ true → Tail
-      still z q =
-          let zero = zeros-agree t (circuitSize * i + 28) 4 z in
-          let last : getD t (circuitSize * i + 31) 0 ≡ 0 = ap (λ (k : ℕ). getD t k 0) (omega arith) ∙ zero 3 (omega arith) in
-          let two : getD t (circuitSize * i + 29) 0 ≡ 0 = ap (λ (k : ℕ). getD t k 0) (omega arith) ∙ zero 1 (omega arith) in
-          let one : getD t (circuitSize * i + 28) 0 ≡ 0 = ap (λ (k : ℕ). getD t k 0) (omega arith) ∙ zero 0 (omega arith) in
-          let none : octet30 ≡ 0 = ap (λ (k : ℕ). getD t k 0) (omega arith) ∙ zero 2 (omega arith) in
-          record {
-            small = le-leb octet30 1 (omega arith);
-            nobody = λ e. eq-eqb octet30 0 none;
-            under = λ e. ap (λ (k : ℕ). eqb k 1) none;
-            spare = λ d. zeros (one d ∷ two d ∷ last d ∷ []);
-          }
+      Rest : Type 0
+      Rest = Tail × (partInOrder (c .reservation) (reservationOctets t i) ≡ true) × (pairOk c ≡ true)
 
-      rings : zeros (span t (circuitSize * i + 28) 4) ≡ false → ringsInOrder t i ≡ true → Tail
-      rings z q =
-          let first = halves q in
-          let second = halves (first .1) in
-          let third = halves (second .1) in
-          let one = eqb-true octet30 1 (first .0) in
-          record {
-            small = le-leb octet30 1 (omega arith);
-            nobody = λ e. absurd (true≢false (sym (third .0) ∙ e));
-            under = λ e. absurd (true≢false (sym e ∙ not-true (c .reservation .present) (third .1)));
-            spare = second .0;
-          }
+      by-flag : (x z : Bool) {b : Bool} → c .reservation .present ≡ b → cond (c .reservation .present) x z ≡ cond b x z
+      by-flag x z e = ap (λ (b : Bool). cond b x z) e
 
-  -- the reservation's part by itself, and the two together
-  both-parts : (z : Bool) → ifPresent (c .holder) (levelOk (c .holder .mark .level .0)) ≡ true → (c .reservation .present ≡ true → c .ringing ≡ false) → cond (c .reservation .present) (fit (c .reservation) && above c) z ≡ true → (cond (c .reservation .present) (fit (c .reservation)) z ≡ true) × (pairOk c ≡ true)
-  both-parts z under still h = by-so (c .reservation .present) there absent
-    where
-      by-flag : (x : Bool) {b : Bool} → c .reservation .present ≡ b → cond (c .reservation .present) x z ≡ cond b x z
-      by-flag x e = ap (λ (b : Bool). cond b x z) e
+      there : c .reservation .present ≡ true → Rest
+      there e =
+          let tests = halves (sym (by-flag _ (unreservedInOrder t i) e) ∙ h) in
+          let both = halves (tests .1) in
+          let tail = tail-zero (tests .0) in
+          (tail, by-flag (fit (c .reservation)) (zeros (reservationOctets t i)) e ∙ both .0, pair-above c under (tail .under e) (both .1))
 
-      there : c .reservation .present ≡ true → (cond (c .reservation .present) (fit (c .reservation)) z ≡ true) × (pairOk c ≡ true)
-      there e = let both = halves (sym (by-flag (fit (c .reservation) && above c) e) ∙ h) in (by-flag (fit (c .reservation)) e ∙ both .0, pair-above c under (still e) (both .1))
-
-      absent : c .reservation .present ≡ false → (cond (c .reservation .present) (fit (c .reservation)) z ≡ true) × (pairOk c ≡ true)
-      absent e = (by-flag (fit (c .reservation)) e ∙ sym (by-flag (fit (c .reservation) && above c) e) ∙ h, pair-absent c e)
+      absent : c .reservation .present ≡ false → Rest
+      absent e =
+          let tests = halves (sym (by-flag (zeros (tailOctets t i) && (fit (c .reservation) && above c)) (unreservedInOrder t i) e) ∙ h) in
+          let tail = by-test (λ (b : Bool). b ≡ true → Tail) (zeros (tailOctets t i)) true (ringsInOrder t i) (λ z q. tail-zero z) (λ z q. tail-rings e q) (tests .1) in
+          (tail, by-flag (fit (c .reservation)) (zeros (reservationOctets t i)) e ∙ tests .0, pair-absent c e)
 
   -- the whole of the holder's part is zero where there is no holder
   holder-zero : Tail → zeroIfAbsent (c .holder) (span t (circuitSize * i) 12) ≡ true → zeroIfAbsent (c .holder) (holderOctets t i) ≡ true
@@ -151,13 +158,12 @@ module _ (t : List ℕ) (i : ℕ) where
   unfolding inOrder records levelsOk fieldsOk flagsAt blankAt
   in-order h =
       let first = halves h in
-      let second = halves (first .1) in
-      let tail = tail-is (second .0) in
       let a = apart t (circuitSize * i) 12 (omega arith) (first .0) in
-      let last = both-parts _ (a .1) (tail .under) (second .1) in
-      let b = apart t (circuitSize * i + 12) 16 (omega arith) (last .0) in
+      let last = rest (a .1) (first .1) in
+      let tail = last .0 in
+      let b = apart t (circuitSize * i + 12) 16 (omega arith) (last .1) in
       valid-is (recordVerdict records t i)
       (record-valid records t i
       ∙ and-both _ _
       (and-both _ _ (and-both _ _ (a .0) (and-both _ _ (b .0) (if-present (c .holder) _ (λ q. tail .small)))) (and-both _ _ (held-under (c .holder) (a .1)) (b .1)))
-      (and-both _ _ (and-both _ _ (a .2) (b .2)) (and-both _ _ (and-both _ _ (holder-zero tail (a .3)) (and-both _ _ (b .3) (tail .spare))) (and-both _ _ (last .1) refl))))
+      (and-both _ _ (and-both _ _ (a .2) (b .2)) (and-both _ _ (and-both _ _ (holder-zero tail (a .3)) (and-both _ _ (b .3) (tail .spare))) (and-both _ _ (last .2) refl))))

@@ -18,7 +18,7 @@ ghost use Rattle.rules.specs.Fields.{pointCodeOk};
 ghost use Rattle.rules.specs.Valid.{ifPresent, heldUnder, reservedUnder, levelsOk, fieldsOk, pairOk, recordVerdict, recordsTo, partsTo};
 ghost use Rattle.rules.specs.Valid as rule;
 ghost use Rattle.rules.specs.Records.{circuitSize, circuitAt, circuits, flagsAt, records, checked};
-ghost use Rattle.validity.specs.Order.{fieldsFit, partInOrder, ringsInOrder, tailInOrder, inOrder};
+ghost use Rattle.validity.specs.Order.{fieldsFit, partInOrder, ringsInOrder, unreservedInOrder, inOrder};
 ghost use Rattle.validity.specs.Order as order;
 ghost use Rattle.validity.specs.Code.{reasonDigit, digitOf, codeOf, reasonOf, checkCoded};
 
@@ -178,30 +178,26 @@ fn holder_in_order(t: &[u8], i: usize) -> bool
     }
 }
 
-// Tells whether the holder of record i rings, as it may: there is one, there is no reservation, and the octets that belong to no part are
-// zero.
+// Tells whether record i has a holder that rings, and its other octets from 28 on are zero.
 fn rings_in_order(t: &[u8], i: usize) -> bool
     requires { ⌜ i < circuits (now t) ⌝ }
     ensures { λ r. ⌜ r ≡ ringsInOrder (now (t .entry)) i ⌝ }
 {
-    if !table::ringing_at(t, i) {
-        return false;
-    }
-    if !table::spare_zero(t, i) {
-        return false;
-    }
     if table::held_at(t, i) {
-        !table::reserved_at(t, i)
+        table::tail_rings(t, i)
     } else {
         false
     }
 }
 
-// Tells whether the last four octets of record i are zero, or its holder rings, as it may.
-fn tail_in_order(t: &[u8], i: usize) -> bool
+// Tells whether in record i, which has no reservation, all octets from the reservation's part on are zero, or its holder rings.
+fn unreserved_in_order(t: &[u8], i: usize) -> bool
     requires { ⌜ i < circuits (now t) ⌝ }
-    ensures { λ r. ⌜ r ≡ tailInOrder (now (t .entry)) i ⌝ }
+    ensures { λ r. ⌜ r ≡ unreservedInOrder (now (t .entry)) i ⌝ }
 {
+    if !table::reservation_zero(t, i) {
+        return false;
+    }
     if table::tail_zero(t, i) {
         true
     } else {
@@ -229,11 +225,11 @@ fn in_order(t: &[u8], i: usize) -> bool
     if !holder_in_order(t, i) {
         return false;
     }
-    if !tail_in_order(t, i) {
-        return false;
-    }
     if !table::reserved_at(t, i) {
-        return table::reservation_zero(t, i);
+        return unreserved_in_order(t, i);
+    }
+    if !table::tail_zero(t, i) {
+        return false;
     }
     if !fit(table::reservation_at(t, i)) {
         return false;

@@ -1,6 +1,4 @@
--- One test after the other.
-use mathlib.Core.Path.{ap, _∙_}
-use mathlib.Core.Bool.{not}
+-- Held, and ringing.
 use Rattle.octets.proofs.Tests.{both}
 use borrow.Author.Needs.{needs}
 use Rattle.validity.proofs.rings_in_order.Statement.{statement}
@@ -11,10 +9,6 @@ rings-in-order-spec =
     tie.close
     (tie.spec
     (λ c κs. search needs)
+    (λ c κs. search needs)
     (λ c. search both)
-    (λ c κs. search needs)
-    (λ c. search both depth 8)
-    (λ c κs. search needs)
-    (λ c κs. search needs)
-    (λ c. let free = ap not (c .reserved-at .ensures) in search both depth 8)
-    (λ c. search both depth 8))
+    (λ c. search both))
