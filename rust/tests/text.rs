@@ -78,12 +78,12 @@ fn texts() {
         (
             41,
             "FLAG_OR_LEVEL",
-            "a flag or a holder's octet 30 is above 1, or a present part's level above 4 (a holder's may be 15 if its domain is zero)",
+            "a flag or a holder's octet 30 is above 1, or a present part's level above 4 (a holder's may be 15 in the zero domain)",
         ),
         (
             44,
             "NOT_ABOVE_HOLDER",
-            "the reservation is above a holder that rings, has level 15, or is not strictly lower in the same domain",
+            "the reservation is not strictly above the holder in the same domain, or the holder has level 15 or rings",
         ),
         (
             60,
@@ -177,7 +177,7 @@ fn refusals_are_errors() {
     });
     assert_eq!(
         error.to_string(),
-        "43 NOT_ZERO: an octet of an absent part, octet 30 with the holder's, or octet 28, 29 or 31 is not zero, in record 7"
+        "43 NOT_ZERO: an octet of an absent part, or octet 28, 29 or 31, is not zero, in record 7"
     );
     assert_eq!(Reason::NotZero.name(), "NOT_ZERO");
     assert_eq!(
