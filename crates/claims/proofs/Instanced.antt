@@ -1,6 +1,6 @@
 -- The instance at one circuit, by computation.
 use Prim.Native.Nat.{ℕ, _<_}
-use mathlib.Core.Path.{_≡_, refl, sym, ap, _∙_}
+use mathlib.Core.Path.{_≡_, refl, sym, ap, _∙_, subst}
 use mathlib.Core.Bool.{Bool, true, false, true≢false}
 use mathlib.Core.List.{List, [], _∷_, flatten}
 use native.Mathlib.Omega.{arith}
@@ -17,10 +17,10 @@ use Rattle.rules.specs.Run.{outcomeOf, effect, after, answerRecord, answered}
 use Rattle.rules.specs.Records.{putCircuit, flagsAt, blankAt, eventAt, records, tableLength, listLength}
 use Rattle.rules.specs.Vectors.{event, setsUp, isAnswered, priority}
 use Rattle.route.specs.Entries.{eventsIn, listLengths, listNumber, listTable, listAnswers}
-use Rattle.claims.specs.History.{named, afterAnswer}
+use Rattle.claims.specs.History.{named, afterAnswer, empty}
 use Rattle.claims.specs.Demand.{StandsIn, NewSetUp}
 use Rattle.claims.specs.Lists.{EventList, turns}
-use Rattle.claims.specs.Instance.{earlier, answeredCall, ringingCall, shown, Met}
+use Rattle.claims.specs.Instance.{earlier, answeredCall, ringingCall, noCall, shown, Met}
 
 -- call 1 holds the only circuit and rings or does not, and nobody has reserved it
 abbrev heldByOne : Bool → Circuit
@@ -32,45 +32,40 @@ heldByOne rings =
       ringing = rings;
     }
 
-shown-answered : shown answeredCall 0 ≡ heldByOne false
-unfolding earlier answeredCall event setsUp isAnswered priority turns listNumber listTable listAnswers listLengths eventsIn tableLength listLength flatten named afterAnswer answerRecord answered after effect outcomeOf decision setUp onHolder onReservation choice heldBy reservedBy rank worth takeable answerOf valid verdict recordVerdict repeated levelsOk fieldsOk pairOk decimal pointCodeOk wellFormed parameterOk records putCircuit flagsAt blankAt
-shown-answered = refl
+-- in the one past, and in the other
+shown-both : (shown answeredCall 0 ≡ heldByOne false) × (shown ringingCall 0 ≡ heldByOne true)
+unfolding earlier answeredCall ringingCall event setsUp isAnswered priority turns listNumber listTable listAnswers listLengths eventsIn tableLength listLength flatten named afterAnswer answerRecord answered after effect outcomeOf decision setUp onHolder onReservation choice heldBy reservedBy rank worth takeable answerOf valid verdict recordVerdict repeated levelsOk fieldsOk pairOk decimal pointCodeOk wellFormed parameterOk records putCircuit flagsAt blankAt
+shown-both = (refl, refl)
 
-shown-ringing : shown ringingCall 0 ≡ heldByOne true
-unfolding earlier ringingCall event setsUp isAnswered priority turns listNumber listTable listAnswers listLengths eventsIn tableLength listLength flatten named afterAnswer answerRecord answered after effect outcomeOf decision setUp onHolder onReservation choice heldBy reservedBy rank worth takeable answerOf valid verdict recordVerdict repeated levelsOk fieldsOk pairOk decimal pointCodeOk wellFormed parameterOk records putCircuit flagsAt blankAt
-shown-ringing = refl
-
--- so a well-formed set-up of call 3 is a new one
-module _ (lists : List EventList) (rings : Bool) (shows : shown lists 0 ≡ heldByOne rings) where
-  at : (c : ℕ) → c < 1 → shown lists c ≡ heldByOne rings
-  at c l = ap (shown lists) (omega arith) ∙ shows
-
-  asks : (level : ℕ) → wellFormed (eventAt (setsUp 3 level)) ≡ true → NewSetUp 1 (shown lists) (eventAt (setsUp 3 level))
+-- so a well-formed set-up of call 3 is a new one, and so it is where nobody stands
+module _ (lists : List EventList) (level : ℕ) (w : wellFormed (eventAt (setsUp 3 level)) ≡ true) where
+  asks : (y : Circuit) → shown lists 0 ≡ y → (StandsIn (3 ∷ 0 ∷ 0 ∷ 1 ∷ 0 ∷ []) (y .holder) → ⊥) → (StandsIn (3 ∷ 0 ∷ 0 ∷ 1 ∷ 0 ∷ []) (y .reservation) → ⊥) → NewSetUp 1 (shown lists) (eventAt (setsUp 3 level))
   unfolding event setsUp
-  asks level w =
+  asks y shows held reserved =
       record {
         well-formed = w;
         set-up = refl;
-        holds-nothing = λ c l h. absurd (holds c l h);
-        reserves-nothing = λ c l h. absurd (reserves c l h);
+        holds-nothing = λ c l h. held (subst (λ (z : Circuit). StandsIn (3 ∷ 0 ∷ 0 ∷ 1 ∷ 0 ∷ []) (z .holder)) (at c l) h);
+        reserves-nothing = λ c l h. reserved (subst (λ (z : Circuit). StandsIn (3 ∷ 0 ∷ 0 ∷ 1 ∷ 0 ∷ []) (z .reservation)) (at c l) h);
       }
     where
-      holds : (c : ℕ) → c < 1 → StandsIn (eventAt (setsUp 3 level) .reference) (shown lists c .holder) → ⊥
-      holds c l h =
-          let z : _≡_ {A = ℕ} 1 3 = ap (λ (y : Circuit). getD (y .holder .reference) 0 0) (sym (at c l)) ∙ ap (λ (r : List ℕ). getD r 0 0) (h .1) in
-          omega arith
+      at : (c : ℕ) → c < 1 → shown lists c ≡ y
+      at c l = ap (shown lists) (omega arith) ∙ shows
 
-      reserves : (c : ℕ) → c < 1 → StandsIn (eventAt (setsUp 3 level) .reference) (shown lists c .reservation) → ⊥
-      reserves c l h = true≢false (sym (h .0) ∙ ap (λ (y : Circuit). y .reservation .present) (at c l))
+  asks-held : (rings : Bool) → shown lists 0 ≡ heldByOne rings → NewSetUp 1 (shown lists) (eventAt (setsUp 3 level))
+  asks-held rings shows =
+      asks (heldByOne rings) shows (λ h. let z : _≡_ {A = ℕ} 1 3 = ap (λ (r : List ℕ). getD r 0 0) (h .1) in omega arith) (λ h. true≢false (sym (h .0)))
 
 pub met : Met
 unfolding earlier answeredCall ringingCall event setsUp isAnswered priority turns listNumber listTable listAnswers listLengths eventsIn tableLength listLength flatten named afterAnswer answerRecord answered after effect outcomeOf decision setUp onHolder onReservation choice heldBy reservedBy rank worth takeable answerOf valid verdict recordVerdict repeated levelsOk fieldsOk pairOk decimal pointCodeOk wellFormed parameterOk records putCircuit flagsAt blankAt
 met =
     record {
-      asks-priority = asks answeredCall false shown-answered priority refl;
+      asks-priority = asks-held answeredCall priority refl false (shown-both .0);
       gets = refl;
-      asks-routine = asks answeredCall false shown-answered routine refl;
+      asks-routine = asks-held answeredCall routine refl false (shown-both .0);
       gets-none = refl;
-      asks-while-ringing = asks ringingCall true shown-ringing priority refl;
+      asks-first = asks noCall priority refl empty refl (λ h. true≢false (sym (h .0))) (λ h. true≢false (sym (h .0)));
+      gets-free = refl;
+      asks-while-ringing = asks-held ringingCall priority refl true (shown-both .1);
       gets-none-ringing = refl;
     }

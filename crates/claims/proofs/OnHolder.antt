@@ -25,13 +25,13 @@ use Rattle.rules.specs.Choice.{heldBy}
 use Rattle.rules.specs.Decision.{unless, onHolder, decision}
 use Rattle.rules.specs.Answer.{becomes, answerOf}
 use Rattle.rules.specs.Valid.{verdict, valid}
-use Rattle.rules.specs.Run.{ifSound, outcomeOf, after, answered, answerRecord}
-use Rattle.rules.specs.Records.{circuitAt, circuits, checkNumber, tableLength, eventSize, eventAt, nobodyLost, answerFields, answerOctets, answerDetail, answerSize, records}
+use Rattle.rules.specs.Run.{ifSound, outcomeOf, effect, after, answered, answerRecord}
+use Rattle.rules.specs.Records.{circuitAt, circuits, putCircuit, checkNumber, tableLength, eventSize, eventAt, nobodyLost, answerFields, answerOctets, answerDetail, answerSize, records}
 use Rattle.rules.proofs.Records.{lawful}
 use Rattle.rules.proofs.Searches.{first-of, first-none}
 use Rattle.rules.proofs.Faults.{valid-facts}
 use Rattle.rules.proofs.Check.{check-done}
-use Rattle.rules.proofs.Kept.{view-after}
+use Rattle.rules.proofs.Kept.{view-after, after-valid}
 use Rattle.rules.proofs.Again.{Lasting, no-service, answered-call, by-holder, table-again, answer-again}
 use Rattle.route.specs.Entries.{eventLengths, eventNumber, eventTable, eventAnswer}
 use Rattle.claims.specs.Demand.{StandsIn}
@@ -78,6 +78,10 @@ module _ {a : Act} {k m : ℕ} (K : Lasting a k m) (t f place r : List ℕ) (tak
   right : eventLengths t f place ≡ true
   right = right-lengths t f place (check-done t takes .0) g long
 
+  -- and the table that the event leaves is valid too
+  pub still-sound : valid records (eventTable t f place) ≡ true
+  still-sound = ap (valid records) (table-then t f place right) ∙ after-valid records lawful t f sound
+
   -- what is decided by the circuit that the call holds
   by-held : {h : Found} → heldBy x n r ≡ h → outcomeOf records t e ≡ found h (Do a) (Refuse NotThere)
   unfolding records onHolder
@@ -114,6 +118,10 @@ module _ {a : Act} {k m : ℕ} (K : Lasting a k m) (t f place r : List ℕ) (tak
     pub answer-given : eventAnswer t f place ≡ answerOctets (answerOf x n e (Do a c))
     unfolding records answerRecord
     answer-given = answer-then t f place right ∙ ap answerOctets answers
+
+    pub table-made : eventTable t f place ≡ putCircuit t c (made e a (x c))
+    unfolding records after effect
+    table-made = table-then t f place right ∙ ap (effect records t e) decides
 
     becomes-so : (d : ℕ) → d < n → circuitAt (eventTable t f place) d ≡ becomes e (Do a c) d (x d)
     unfolding records

@@ -1,15 +1,15 @@
 -- A holder rings from its set-up until its own kind 7.
-use Prim.Native.Nat.{ℕ, _<_, _≤_}
+use Prim.Native.Nat.{ℕ, _+_, _*_, _<_}
 use mathlib.Core.Path.{_≡_, refl, sym, ap, _∙_, subst}
 use mathlib.Core.Logic.{⊎-elim, _≢_, _⊎_, inl, inr}
-use mathlib.Core.Bool.{Bool, true, false, cond, _||_, true≢false}
+use mathlib.Core.Bool.{Bool, true, false, _||_, true≢false}
 use mathlib.Core.List.{List, [], _∷_, _++_, append-nil, append-assoc}
 use native.Mathlib.Omega.{arith}
-use lib.ListN.{length}
-use lib.Dec.{eqb}
-use borrow.Author.Tests.{eqb-true, eqb-false}
-use Rattle.octets.proofs.Tests.{by-so, by-test}
-use Rattle.octets.proofs.Width.{value-octets}
+use lib.ListN.{length, getD}
+use lib.Dec.{eqb, leb}
+use borrow.Author.Tests.{eqb-true, eqb-false, leb-true}
+use Rattle.octets.proofs.Tests.{and-right, by-so, by-test}
+use Rattle.octets.proofs.Width.{value-octets, octet-at}
 use Rattle.rules.specs.declared.part.Part.{Part}
 use Rattle.rules.specs.declared.circuit.Circuit.{Circuit}
 use Rattle.rules.specs.declared.event.Event.{Event}
@@ -19,37 +19,70 @@ use Rattle.rules.specs.declared.outcome.Act.the-variants.{Seize, Reserve, Relea
 use Rattle.rules.specs.declared.outcome.Outcome.{Outcome}
 use Rattle.rules.specs.declared.outcome.Outcome.the-variants.{Refuse, Do, Clock}
 use Rattle.rules.specs.Numbers as number
-use Rattle.rules.specs.Circuit.{made, overdue}
+use Rattle.rules.specs.Circuit.{withHolder, made, overdue}
 use Rattle.rules.specs.Answer.{becomes, anothers, answerOf}
 use Rattle.rules.specs.Valid.{valid}
-use Rattle.rules.specs.Records.{circuitAt, circuits, checkNumber, answerSize, answerNumber, answerDetail, answerOctets, emptyTable, records}
+use Rattle.rules.specs.Records.{circuitSize, circuitAt, circuits, putCircuit, flagsAt, checkNumber, eventAt, answerSize, answerNumber, answerDetail, answerOctets, emptyTable, records}
 use Rattle.rules.proofs.Numbers.{refusal-high}
+use Rattle.rules.proofs.Sound.{present-so}
+use Rattle.rules.proofs.Records.{count-put, stored-same}
+use Rattle.rules.proofs.Faults.{valid-facts}
+use Rattle.rules.proofs.Check.{check-done}
 use Rattle.rules.proofs.Grounds.{Grounds}
 use Rattle.rules.proofs.Again.{answered-call}
+use Rattle.route.specs.Entries.{eventTable}
 use Rattle.claims.specs.History.{Turn, asked, history}
 use Rattle.claims.specs.Lists.{EventList, past}
 use Rattle.claims.specs.Demand.{StandsIn}
-use Rattle.claims.specs.Accidents.{HolderGoes, released, higher-set-up, OwnAmong}
+use Rattle.claims.specs.Accidents.{HolderGoes, released, higher-set-up, HolderStays, same-mark, unmarked, OwnAmong}
 use Rattle.claims.specs.OnHolder.{HolderEvent}
-use Rattle.claims.specs.Ringing.{EndsRinging, RingingEnds, SeizedBy, HeldSince, RingsExactly, RingsUntilAnswered, AnsweredSince, TakenOnlyAnswered}
+use Rattle.claims.specs.Ringing.{EndsRinging, RingingEnds, SeizedBy, HeldSince, RingsExactly, RingsUntilAnswered, AnsweredSince, CountedOnlyAnswered, TakenOnlyAnswered}
 use Rattle.claims.proofs.Plain.{stands-in}
 use Rattle.claims.proofs.Parties.{each-turn}
 use Rattle.claims.proofs.Among.{one-on, among-one, among, among-more, among-before, not-empty, last-or-before}
-use Rattle.claims.proofs.OnHolder.{nobody-holds, number-given, answer-given, circuit-made, others-stay}
+use Rattle.claims.proofs.Holders.{no-holder-lost}
+use Rattle.claims.proofs.OnHolder.{nobody-holds, still-sound, number-given, answer-given, table-made, circuit-made, others-stay}
 
 -- ---- one event
-pub ringing-ends : RingingEnds
-unfolding answerOf
-ringing-ends t f place r takes g long = (
-  λ c l holds.
+-- in a valid table u octet 30 of a holder that does not ring is 0
+octet-zero : (u : List ℕ) → valid records u ≡ true → (c : ℕ) → c < circuits u → circuitAt u c .holder .present ≡ true → circuitAt u c .ringing ≡ false → getD u (circuitSize * c + 30) 0 ≡ 0
+unfolding records flagsAt
+octet-zero u v c l held still =
+    let b = getD u (circuitSize * c + 30) 0 in
+    let flags = valid-facts records u v .flags c l in
+    let small = and-right (leb (getD u (circuitSize * c + 12) 0) 1) _ (and-right (leb (getD u (circuitSize * c) 0) 1) _ flags) in
+    let most = leb-true b 1 (present-so (circuitAt u c .holder) (leb b 1) small held) in
+    let not-one = eqb-false b 1 still in
+    omega arith
+
+module _ (t f place r : List ℕ) (takes : checkNumber t ≡ number.done) (g : HolderEvent 7 r f) (long : length place ≡ answerSize) (c : ℕ) (l : c < circuits t) (holds : StandsIn r (circuitAt t c .holder)) where
+  left : eventTable t f place ≡ putCircuit t c (made (eventAt f) Answered (circuitAt t c))
+  left = table-made answered-call t f place r takes g long c l holds
+
+  made-so : circuitAt (eventTable t f place) c ≡ withHolder (circuitAt t c .holder) false (circuitAt t c)
+  made-so = circuit-made answered-call t f place r takes g long c l holds
+
+  ends-ringing : EndsRinging t f place c
+  unfolding answerOf records
+  ends-ringing =
       record {
         accepted = number-given answered-call t f place r takes g long c l holds;
         answer = answer-given answered-call t f place r takes g long c l holds;
-        circuit = circuit-made answered-call t f place r takes g long c l holds;
+        octet =
+            octet-zero (eventTable t f place) (still-sound answered-call t f place r takes g long) c
+            (let many = ap circuits left ∙ count-put t c (made (eventAt f) Answered (circuitAt t c)) in omega arith)
+            (ap (λ (y : Circuit). y .holder .present) made-so ∙ holds .0) (ap (λ (y : Circuit). y .ringing) made-so);
+        circuit = made-so;
         others = others-stay answered-call t f place r takes g long c l holds;
-      },
-  nobody-holds answered-call t f place r takes g long,
-)
+        stays =
+            λ o still.
+            let facts = valid-facts records t (check-done t takes .1) in
+            left ∙ ap (λ (b : Bool). putCircuit t c (withHolder (circuitAt t c .holder) b (circuitAt t c))) (sym still)
+            ∙ stored-same t c (octet-at t o) (facts .flags c l) (facts .blank c l);
+      }
+
+pub ringing-ends : RingingEnds
+ringing-ends t f place r takes g long = (ends-ringing t f place r takes g long, nobody-holds answered-call t f place r takes g long)
 
 -- ---- what one turn makes of circuit c, which was y before turn p and is z after it
 abbrev EndedBy : ℕ → Turn → Type 0  -- turn p is answered by 9 and circuit c
@@ -165,7 +198,7 @@ module _ (c : ℕ) (p : Turn) (before : List Turn) (y z : Circuit) where
   abbrev Own : Circuit → List Turn → Type 0  -- among these turns is the holder's own kind 7, answered by 9
   Own w ps = OwnAmong 7 number.nowAnswered c (w .holder .reference) ps
 
-  -- a holder rings exactly until that turn, if it rings where there is none and there is one where it does not ring
+  -- a holder rings exactly until that turn, if there is none where it rings, and one where it does not
   rings : (h : HeldSince c z (before ++ p ∷ [])) → (z .ringing ≡ true → Own z (h .since) → ⊥) → (z .ringing ≡ false → Own z (h .since)) → RingsExactly c z (before ++ p ∷ [])
   rings h none some =
       record {
@@ -218,8 +251,25 @@ module _ (n : ℕ) (lists : List EventList) (c : ℕ) (l : c < n) where
 pub rings-until-answered : RingsUntilAnswered
 rings-until-answered n lists turns later split c l = grow n lists c l turns [] later split (λ h. absurd (true≢false (sym h)))
 
+-- a holder that does not ring was answered
+was-answered : {c : ℕ} {y : Circuit} {turns : List Turn} → RingsExactly c y turns → y .ringing ≡ false → AnsweredSince c y turns
+was-answered r still = record { held = r .held; answered = r .otherwise still }
+
+pub counted-only-answered : CountedOnlyAnswered
+counted-only-answered n lists turns later split c l there m low =
+    was-answered (rings-until-answered n lists turns later split c l there) (low .answered there)
+
 pub taken-only-answered : TakenOnlyAnswered
-taken-only-answered n lists before p later split c l there kind (released own five) = absurd (omega (arith, own .kind))
-taken-only-answered n lists before p later split c l there kind (higher-set-up k two taken level still) =
-    let r = rings-until-answered n lists before (p ∷ later) split c l there in
-    record { held = r .held; answered = r .otherwise still }
+taken-only-answered n lists before p later split c l there not-released gone =
+    ⊎-elim (λ s. absurd (stays s)) goes (no-holder-lost n lists before p later split c l there)
+  where
+    y : Circuit
+    y = history before c
+
+    stays : HolderStays c p y (history (before ++ p ∷ []) c) → ⊥
+    stays (same-mark s) = gone (ap (λ (q : Part). q .present) s ∙ there, ap (λ (q : Part). q .reference) s)
+    stays (unmarked own eight s) = gone (ap (λ (q : Part). q .present) s ∙ there, ap (λ (q : Part). q .reference) s)
+
+    goes : HolderGoes c p y → AnsweredSince c y before
+    goes (released own five) = absurd (not-released own)
+    goes (higher-set-up k two taken level still) = was-answered (rings-until-answered n lists before (p ∷ later) split c l there) still

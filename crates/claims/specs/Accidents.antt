@@ -104,8 +104,8 @@ pub data HolderStays (c : ℕ) (p : Turn) (y z : Circuit) : Type 0 where
       → z .holder ≡ withoutPrecedence (y .holder) → HolderStays c p y z
 
 -- a holder stays under its mark, or under none by its own kind 6 (02, L4); it goes only by its release or, if its level is 0 to 4 and it does not
--- ring (02, L7), by the set-up of a strictly higher call in the same domain whose answer names it: at a look-ahead "a holder stays", at a cancel "the other part stays", and a
--- clock event takes reservations alone
+-- ring (02, L7), by the set-up of a strictly higher call in the same domain whose answer names it: at a look-ahead "a holder stays", at a cancel
+-- "the other part stays", and a clock event takes reservations alone
 abbrev pub NoHolderLost : Type 0
 NoHolderLost = StaysOrGoes (λ y. y .holder) HolderStays HolderGoes
 

@@ -25,7 +25,7 @@ use Rattle.claims.specs.Chosen.{NoneFree, NoneLower, FirstFree, Lowest}
 use Rattle.rules.specs.Answer.{noDetail}
 
 -- "Who holds and who has reserved each circuit follows from the past events and answers alone": what the table shows of a circuit,
--- under which mark and since which clock, is what the history says
+-- under which mark and since which clock, and whether its holder rings, is what the history says
 abbrev pub HistoryTells : Type 0
 HistoryTells =
     (n : ℕ) (lists : List EventList) (c : ℕ) → c < n → circuitAt (tableAfter (emptyTable n) lists) c ≡ history (past (emptyTable n) lists) c

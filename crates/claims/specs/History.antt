@@ -1,7 +1,7 @@
 -- The history tells who holds and who has reserved each circuit, under which mark and since which clock, and whether the holder rings, from
--- the past events and their answers alone. It looks at no table. What it takes from the rules are words for a circuit with another holder or reservation; what these come
--- to is said apart from them, by `NoMarkLeft`, `NoReservationLost`, `NoHolderLost` and `NeverTaken` (Accidents) and by `RingsUntilAnswered`
--- (Ringing).
+-- the past events and their answers alone. It looks at no table. What it takes from the rules are words for a circuit with another holder or
+-- reservation; what these come to is said apart from them, by `NoMarkLeft`, `NoReservationLost`, `NoHolderLost` and `NeverTaken` (Accidents) and
+-- by `RingsUntilAnswered` (Ringing).
 use Prim.Native.Nat.{ℕ, _+_, _-_, _%_}
 use mathlib.Core.Bool.{Bool, true, false, cond, _&&_, _||_}
 use mathlib.Core.List.{List, [], _∷_}

@@ -38,8 +38,11 @@ abbrev pub anyBelow : (ℕ → Bool) → ℕ → Bool  -- f holds of some number
 anyBelow f zero = false
 anyBelow f (suc n) = anyBelow f n || f n
 
+abbrev pub notZeroAt : List ℕ → ℕ → Bool  -- octet o is not zero
+notZeroAt t o = not (eqb (octet t o) 0)
+
 abbrev pub anyNotZero : List ℕ → ℕ → ℕ → Bool  -- one of the n octets from octet o on is not zero
-anyNotZero t o n = anyBelow (λ k. not (eqb (octet t (o + k)) 0)) n
+anyNotZero t o n = anyBelow (λ k. notZeroAt t (o + k)) n
 
 abbrev pub anyDiffers : List ℕ → ℕ → ℕ → ℕ → Bool  -- one of the n octets from octet o on differs from that of the n from octet p on
 anyDiffers t o p n = anyBelow (λ k. not (eqb (octet t (o + k)) (octet t (p + k)))) n
@@ -79,9 +82,6 @@ absentNotZero t o n = not (present t o) && anyNotZero t o n
 -- the parts at octets p and o are present, and have the same reference
 abbrev pub standsIn : List ℕ → ℕ → ℕ → Bool
 standsIn t p o = present t p && present t o && not (anyDiffers t (p + 7) (o + 7) 5)
-
-abbrev pub notZeroAt : List ℕ → ℕ → Bool  -- octet o is not zero
-notZeroAt t o = not (eqb (octet t o) 0)
 
 -- ---- octet 30, which belongs to the holder's part
 abbrev pub badRinging : List ℕ → ℕ → Bool  -- record i has a holder, and octet 30 is above 1

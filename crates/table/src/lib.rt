@@ -13,12 +13,12 @@ ghost use Prim.Native.Nat.{_+_, _*_, _/_, _<_, _≤_};
 ghost use lib.ListN.{length};
 ghost use mathlib.Core.List.{_∷_, _++_};
 ghost use Rattle.octets.specs.Number.{octets};
-ghost use Rattle.octets.specs.Span.{span, put, zeros};
+ghost use Rattle.octets.specs.Span.{put, zeros};
 ghost use Rattle.octets.specs.Same.{same};
 ghost use Rattle.rules.specs.Circuit.{sameMark, noPrecedence, isOf, free, preemptable, standing, overdue};
 ghost use Rattle.rules.specs.Standing.{standingOf};
 ghost use Rattle.rules.specs.Valid.{partNumbered};
-ghost use Rattle.rules.specs.Records.{circuitSize, circuits, partAt, circuitAt, holderOctets, reservationOctets, spareOctets, partOctets, stateOctets, putCircuit, flagsAt, blankAt, tableLength};
+ghost use Rattle.rules.specs.Records.{circuitSize, circuits, partAt, circuitAt, firstOctets, holderOctets, reservationOctets, spareOctets, tailOctets, partOctets, stateOctets, putCircuit, flagsAt, blankAt, tableLength};
 
 // A circuit has 32 octets.
 pub const CIRCUIT_SIZE: usize = 32;
@@ -309,7 +309,7 @@ fn store_part(t: &mut [u8], o: usize, p: Part)
     octets::write(t, o, &v);
 }
 
-// Writes the holder's part of circuit i: octets 0 to 11, and octets 30 and 31, which say whether the holder rings.
+// Writes the holder's part of circuit i: octets 0 to 11, octet 30, which says whether the holder rings, and a zero in octet 31.
 pub fn store_holder(t: &mut [u8], i: usize, p: Part, ringing: bool)
     requires { ⌜ i < circuits (now t) ⌝ }
     ensures { λ _. ⌜ now (t .exit) ≡ put (put (now (t .entry)) (circuitSize * i) (partOctets p)) (circuitSize * i + 30) (stateOctets ringing) ⌝ }
@@ -343,7 +343,7 @@ pub fn store(t: &mut [u8], i: usize, c: Circuit)
     octets::write(t, CIRCUIT_SIZE * i + RINGING, &s);
 }
 
-// Tells whether each flag of record i is 0 or 1, and the octet that says whether the holder rings, if there is one.
+// Tells whether each flag of record i is 0 or 1, and, where there is a holder, the octet that says whether it rings.
 pub fn flags(t: &[u8], i: usize) -> bool
     requires { ⌜ i < circuits (now t) ⌝ }
     ensures { λ r. ⌜ r ≡ flagsAt (now (t .entry)) i ⌝ }
@@ -361,7 +361,7 @@ pub fn flags(t: &[u8], i: usize) -> bool
 // Tells whether octets 0 to 11 of record i, the first of the holder's part, are zero.
 pub fn first_zero(t: &[u8], i: usize) -> bool
     requires { ⌜ i < circuits (now t) ⌝ }
-    ensures { λ r. ⌜ r ≡ zeros (span (now (t .entry)) (circuitSize * i) 12) ⌝ }
+    ensures { λ r. ⌜ r ≡ zeros (firstOctets (now (t .entry)) i) ⌝ }
 {
     octets::zero_twelve(t, CIRCUIT_SIZE * i)
 }
@@ -403,7 +403,7 @@ fn spare_zero(t: &[u8], i: usize) -> bool
 // Tells whether octets 28 to 31 of record i are zero: those that belong to no part, and the one that says whether the holder rings.
 pub fn tail_zero(t: &[u8], i: usize) -> bool
     requires { ⌜ i < circuits (now t) ⌝ }
-    ensures { λ r. ⌜ r ≡ zeros (span (now (t .entry)) (circuitSize * i + 28) 4) ⌝ }
+    ensures { λ r. ⌜ r ≡ zeros (tailOctets (now (t .entry)) i) ⌝ }
 {
     octets::zero_four(t, CIRCUIT_SIZE * i + SPARE)
 }
@@ -414,7 +414,7 @@ const RINGS: u32 = 65536;
 // Tells whether octet 30 of record i is 1, and octets 28, 29 and 31 are zero.
 pub fn tail_rings(t: &[u8], i: usize) -> bool
     requires { ⌜ i < circuits (now t) ⌝ }
-    ensures { λ r. ⌜ r ≡ same (span (now (t .entry)) (circuitSize * i + 28) 4) (0 ∷ 0 ∷ stateOctets true) ⌝ }
+    ensures { λ r. ⌜ r ≡ same (tailOctets (now (t .entry)) i) (0 ∷ 0 ∷ stateOctets true) ⌝ }
 {
     octets::read_four(t, CIRCUIT_SIZE * i + SPARE) == RINGS
 }

@@ -6,10 +6,10 @@ use mathlib.Core.List.{List, [], _∷_}
 use native.Mathlib.Omega.{arith}
 use lib.ListN.{getD}
 use lib.Dec.{leb, eqb}
-use borrow.Author.Tests.{eqb-true, eq-eqb, le-leb, not-true}
+use borrow.Author.Tests.{eqb-true, le-leb}
 use Rattle.octets.specs.Span.{span, zeros}
 use Rattle.octets.proofs.Tests.{and-left, and-right, and-both, halves, by-so, by-test}
-use Rattle.octets.proofs.Spans.{span-at, agree-first, zeros-agree, zeros-then}
+use Rattle.octets.proofs.Spans.{span-at, agree-first, zeros-agree, zeros-all, zeros-then}
 use Rattle.octets.proofs.Sames.{same-true}
 use Rattle.rules.specs.declared.part.Part.{Part}
 use Rattle.rules.specs.declared.circuit.Circuit.{Circuit}
@@ -17,10 +17,10 @@ use Rattle.rules.specs.declared.verdict.Verdict.the-variants.{Valid}
 use Rattle.rules.specs.Fields.{levelOk}
 use Rattle.rules.specs.Circuit.{outranks, sameMark, noPrecedence, preemptable}
 use Rattle.rules.specs.Valid.{ifPresent, heldUnder, levelsOk, fieldsOk, pairOk, recordVerdict}
-use Rattle.rules.specs.Records.{circuitSize, partAt, circuitAt, holderOctets, reservationOctets, spareOctets, stateOctets, flagsAt, zeroIfAbsent, blankAt, records}
+use Rattle.rules.specs.Records.{circuitSize, partAt, circuitAt, holderOctets, reservationOctets, spareOctets, tailOctets, stateOctets, flagsAt, zeroIfAbsent, blankAt, records}
 use Rattle.rules.proofs.Sound.{if-present, present-so}
 use Rattle.rules.proofs.Faults.{valid-is, record-valid}
-use Rattle.validity.specs.Order.{fieldsFit, fit, partInOrder, above, tailOctets, ringsInOrder, unreservedInOrder, afterHolder, inOrder}
+use Rattle.validity.specs.Order.{fieldsFit, fit, partInOrder, above, ringsInOrder, unreservedInOrder, afterHolder, inOrder}
 
 module _ (t : List ℕ) (o w : ℕ) where
   abbrev part : Part  -- the part of w octets from octet o on
@@ -95,30 +95,39 @@ module _ (t : List ℕ) (i : ℕ) where
     under : c .reservation .present ≡ true → c .ringing ≡ false
     spare : zeros (spareOctets t i) ≡ true
 
+  -- where the last four octets are these, so is each of them
+  tail-at : (l : List ℕ) → tailOctets t i ≡ l → (k m : ℕ) → m ≡ circuitSize * i + 28 + k → k < 4 → getD t m 0 ≡ getD l k 0
+  tail-at l is k m e n = ap (λ (m : ℕ). getD t m 0) e ∙ sym (span-at t (circuitSize * i + 28) 4 k n) ∙ ap (λ (l : List ℕ). getD l k 0) is
+
+  -- those of no part are zero
+  spare-zero : (rings : Bool) → tailOctets t i ≡ 0 ∷ 0 ∷ stateOctets rings → zeros (spareOctets t i) ≡ true
+  spare-zero rings is =
+      let at = tail-at (0 ∷ 0 ∷ stateOctets rings) is in
+      λ d.
+      zeros (at 0 (circuitSize * i + 28) (omega arith) (omega arith) d ∷ at 1 (circuitSize * i + 29) (omega arith) (omega arith) d ∷ at 3 (circuitSize * i + 31) (omega arith) (omega arith) d ∷ [])
+
   tail-zero : zeros (tailOctets t i) ≡ true → Tail
   tail-zero z =
-      let zero = zeros-agree t (circuitSize * i + 28) 4 z in
-      let at : (k m : ℕ) → m ≡ circuitSize * i + 28 + k → k < 4 → getD t m 0 ≡ 0 = λ k m e l. ap (λ (m : ℕ). getD t m 0) e ∙ zero k l in
-      let none = at 2 (circuitSize * i + 30) (omega arith) (omega arith) in
+      let is : tailOctets t i ≡ 0 ∷ 0 ∷ stateOctets false = zeros-all (tailOctets t i) z in
+      let none = tail-at (0 ∷ 0 ∷ stateOctets false) is 2 (circuitSize * i + 30) (omega arith) (omega arith) in
       record {
-        small = le-leb octet30 1 (omega arith);
-        nobody = λ e. eq-eqb octet30 0 none;
+        small = ap (λ (k : ℕ). leb k 1) none;
+        nobody = λ e. ap (λ (k : ℕ). eqb k 0) none;
         under = λ e. ap (λ (k : ℕ). eqb k 1) none;
-        spare = λ d. zeros (at 0 (circuitSize * i + 28) (omega arith) (omega arith) d ∷ at 1 (circuitSize * i + 29) (omega arith) (omega arith) d ∷ at 3 (circuitSize * i + 31) (omega arith) (omega arith) d ∷ []);
+        spare = spare-zero false is;
       }
 
   -- a holder that rings, with no reservation above
   tail-rings : c .reservation .present ≡ false → ringsInOrder t i ≡ true → Tail
   tail-rings free q =
       let both = halves q in
-      let tail = same-true (tailOctets t i) (0 ∷ 0 ∷ stateOctets true) (both .1) in
-      let at : (k m : ℕ) → m ≡ circuitSize * i + 28 + k → k < 4 → getD t m 0 ≡ getD (0 ∷ 0 ∷ stateOctets true) k 0 = λ k m e l. ap (λ (m : ℕ). getD t m 0) e ∙ sym (span-at t (circuitSize * i + 28) 4 k l) ∙ ap (λ (l : List ℕ). getD l k 0) tail in
-      let one = at 2 (circuitSize * i + 30) (omega arith) (omega arith) in
+      let is = same-true (tailOctets t i) (0 ∷ 0 ∷ stateOctets true) (both .1) in
+      let one = tail-at (0 ∷ 0 ∷ stateOctets true) is 2 (circuitSize * i + 30) (omega arith) (omega arith) in
       record {
         small = ap (λ (k : ℕ). leb k 1) one;
         nobody = λ e. absurd (true≢false (sym (both .0) ∙ e));
         under = λ e. absurd (true≢false (sym e ∙ free));
-        spare = λ d. zeros (at 0 (circuitSize * i + 28) (omega arith) (omega arith) d ∷ at 1 (circuitSize * i + 29) (omega arith) (omega arith) d ∷ at 3 (circuitSize * i + 31) (omega arith) (omega arith) d ∷ []);
+        spare = spare-zero true is;
       }
 
   -- the reservation's part by itself, the two together, and the last four octets

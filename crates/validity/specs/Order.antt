@@ -1,15 +1,15 @@
 -- A record is in order, part by part, by tests that are quick: each party stands under a precedence, and no reason applies.
-use Prim.Native.Nat.{ℕ, _+_, _*_}
+use Prim.Native.Nat.{ℕ}
 use mathlib.Core.Bool.{Bool, true, cond, _&&_}
 use mathlib.Core.List.{List, _∷_}
-use Rattle.octets.specs.Span.{span, zeros}
+use Rattle.octets.specs.Span.{zeros}
 use Rattle.octets.specs.Same.{same}
 use Rattle.rules.specs.declared.part.Part.{Part}
 use Rattle.rules.specs.declared.circuit.Circuit.{Circuit}
 use Rattle.rules.specs.Fields.{levelOk, decimal, pointCodeOk}
 use Rattle.rules.specs.Circuit.{outranks}
 use Rattle.rules.specs.Valid.{ifPresent}
-use Rattle.rules.specs.Records.{circuitSize, circuitAt, reservationOctets, stateOctets}
+use Rattle.rules.specs.Records.{circuitAt, firstOctets, reservationOctets, tailOctets, stateOctets}
 
 abbrev pub fieldsFit : Part → Bool  -- the digits and the spare bits of a part are right
 fieldsFit p = decimal (p .mark .domain) && pointCodeOk (p .reference)
@@ -23,22 +23,20 @@ partInOrder p octets = cond (p .present) (fit p) (zeros octets)
 abbrev pub above : Circuit → Bool  -- the reservation outranks the holder, if there is one
 above c = ifPresent (c .holder) (outranks (c .reservation .mark) (c .holder .mark))
 
-abbrev pub tailOctets : List ℕ → ℕ → List ℕ  -- octets 28-31 of record i
-tailOctets t i = span t (circuitSize * i + 28) 4
-
--- record i has a holder that rings: of octets 28-31 octet 30 is 1, and the others are zero
+-- record i has a holder that rings, and of its last four octets the others are zero
 abbrev pub ringsInOrder : List ℕ → ℕ → Bool
 ringsInOrder t i = circuitAt t i .holder .present && same (tailOctets t i) (0 ∷ 0 ∷ stateOctets true)
 
--- in record i, which has no reservation, the reservation's part is zero, and so are octets 28-31, or the holder rings
+-- in record i, which has no reservation, the reservation's part is zero, and of the last four octets either all are, or all but that of a holder
+-- who rings
 abbrev pub unreservedInOrder : List ℕ → ℕ → Bool
 unreservedInOrder t i = zeros (reservationOctets t i) && cond (zeros (tailOctets t i)) true (ringsInOrder t i)
 
--- in record i a reservation is fit and above its holder, and octets 28-31 are zero; with no reservation the octets are as above
+-- in record i a reservation is fit and above its holder, and the last four octets are zero; with no reservation it is `unreservedInOrder`
 abbrev pub afterHolder : List ℕ → ℕ → Bool
 afterHolder t i =
     cond (circuitAt t i .reservation .present) (zeros (tailOctets t i) && (fit (circuitAt t i .reservation) && above (circuitAt t i)))
     (unreservedInOrder t i)
 
-unfoldable pub inOrder : List ℕ → ℕ → Bool  -- in record i octets 0-11, of the holder's part, are in order, and so is the rest
-inOrder t i = partInOrder (circuitAt t i .holder) (span t (circuitSize * i) 12) && afterHolder t i
+unfoldable pub inOrder : List ℕ → ℕ → Bool  -- in record i the first of the holder's part is in order, and so is the rest
+inOrder t i = partInOrder (circuitAt t i .holder) (firstOctets t i) && afterHolder t i

@@ -13,11 +13,10 @@ use rules::verdict::Verdict;
 ghost use mathlib.Core.Path.{_≡_};
 ghost use mathlib.Core.Bool.{_&&_};
 ghost use Prim.Native.Nat.{_+_, _*_, _^_, _<_};
-ghost use Rattle.octets.specs.Span.{span};
 ghost use Rattle.rules.specs.Fields.{pointCodeOk};
 ghost use Rattle.rules.specs.Valid.{ifPresent, heldUnder, reservedUnder, levelsOk, fieldsOk, pairOk, recordVerdict, recordsTo, partsTo};
 ghost use Rattle.rules.specs.Valid as rule;
-ghost use Rattle.rules.specs.Records.{circuitSize, circuitAt, circuits, flagsAt, records, checked};
+ghost use Rattle.rules.specs.Records.{circuitAt, circuits, flagsAt, firstOctets, records, checked};
 ghost use Rattle.validity.specs.Order.{fieldsFit, partInOrder, ringsInOrder, unreservedInOrder, inOrder};
 ghost use Rattle.validity.specs.Order as order;
 ghost use Rattle.validity.specs.Code.{reasonDigit, digitOf, codeOf, reasonOf, checkCoded};
@@ -165,10 +164,10 @@ fn fit(p: Part) -> bool
     }
 }
 
-// Tells whether the holder's part of record i is present and fit, or its first twelve octets are zero.
+// Tells whether the holder's part of record i is present and fit, or its first octets are zero.
 fn holder_in_order(t: &[u8], i: usize) -> bool
     requires { ⌜ i < circuits (now t) ⌝ }
-    ensures { λ r. ⌜ r ≡ partInOrder (circuitAt (now (t .entry)) i .holder) (span (now (t .entry)) (circuitSize * i) 12) ⌝ }
+    ensures { λ r. ⌜ r ≡ partInOrder (circuitAt (now (t .entry)) i .holder) (firstOctets (now (t .entry)) i) ⌝ }
 {
     let p = table::holder_at(t, i);
     if p.present {
@@ -178,7 +177,7 @@ fn holder_in_order(t: &[u8], i: usize) -> bool
     }
 }
 
-// Tells whether record i has a holder that rings, and its other octets from 28 on are zero.
+// Tells whether record i has a holder that rings, and of its last four octets the others are zero.
 fn rings_in_order(t: &[u8], i: usize) -> bool
     requires { ⌜ i < circuits (now t) ⌝ }
     ensures { λ r. ⌜ r ≡ ringsInOrder (now (t .entry)) i ⌝ }
@@ -190,7 +189,8 @@ fn rings_in_order(t: &[u8], i: usize) -> bool
     }
 }
 
-// Tells whether in record i, which has no reservation, all octets from the reservation's part on are zero, or its holder rings.
+// Tells whether in record i, which has no reservation, the reservation's part is zero, and of the last four octets either all are, or all but
+// that of a holder who rings.
 fn unreserved_in_order(t: &[u8], i: usize) -> bool
     requires { ⌜ i < circuits (now t) ⌝ }
     ensures { λ r. ⌜ r ≡ unreservedInOrder (now (t .entry)) i ⌝ }

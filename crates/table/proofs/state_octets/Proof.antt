@@ -1,6 +1,5 @@
 -- A flag, and zero.
 use mathlib.Core.Path.{sym, ap}
-use mathlib.Core.Bool.{Bool}
 use Rattle.rules.specs.Records.{stateOctets}
 use Rattle.table.proofs.state_octets.Statement.{statement}
 use Rattle.table.proofs.state_octets.Tie as tie

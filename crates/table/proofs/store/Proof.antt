@@ -1,4 +1,4 @@
--- The holder's part, the reservation's, two octets zero, and the two that say whether the holder rings.
+-- The holder's part, the reservation's, two octets zero, the one that says whether the holder rings, and the last.
 use mathlib.Core.Path.{ap, ap₂, _∙_}
 use mathlib.Core.List.{List, _++_}
 use Prim.Native.Nat.{ℕ, _+_, _*_}

@@ -1,8 +1,7 @@
--- The octets of the part, then those that say whether it rings.
+-- The octets of the part, then the one that says whether it rings and the last.
 use mathlib.Core.Path.{ap₂, _∙_}
 use mathlib.Core.List.{List}
 use Prim.Native.Nat.{ℕ, _+_, _*_}
-use denote.Ref.{now}
 use Rattle.octets.specs.Span.{put}
 use borrow.Author.Needs.{needs}
 use Rattle.table.proofs.store_holder.Statement.{statement}
