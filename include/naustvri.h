@@ -103,8 +103,9 @@ extern "C" {
  * becomes NO_PRECEDENCE and its domain zero, and a reservation above it is lost. A second one is answered by UNMARKED too and changes nothing.
  *
  * An answered event says that the called party of a holder has answered. From its set-up until then the holder rings: no call takes its circuit, and
- * none reserves above it. So a call that is never reported as answered is never taken. A second answered event is answered by NOW_ANSWERED too and
- * changes nothing. It may come before a no-service event of the same call or after it. */
+ * none reserves above it. So a call that was set up by an event and is never reported as answered is never taken; a holder in a table of a version
+ * before 3.0.0 has 0 in CIRCUIT_RINGING, and counts as answered. A second answered event is answered by NOW_ANSWERED too and changes nothing. It may
+ * come before a no-service event of the same call or after it; a no-service event leaves the holder ringing. */
 #define NAUSTVRI_KINDS(first, next) \
     first(NAUSTVRI_SET_UP, 1, "set-up") \
     next(NAUSTVRI_RELEASE, 2, "release") \
