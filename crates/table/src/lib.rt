@@ -8,17 +8,18 @@ use rules::part::Part;
 use rules::part::Reference;
 use rules::standing::Standing;
 ghost use mathlib.Core.Path.{_≡_};
-ghost use mathlib.Core.Bool.{true, cond};
+ghost use mathlib.Core.Bool.{true};
 ghost use Prim.Native.Nat.{_+_, _*_, _/_, _<_, _≤_};
-ghost use lib.ListN.{length};
+ghost use lib.ListN.{length, getD};
+ghost use lib.Dec.{leb};
 ghost use mathlib.Core.List.{_∷_, _++_};
 ghost use Rattle.octets.specs.Number.{octets};
 ghost use Rattle.octets.specs.Span.{put, zeros};
 ghost use Rattle.octets.specs.Same.{same};
 ghost use Rattle.rules.specs.Circuit.{sameMark, noPrecedence, isOf, free, preemptable, standing, overdue};
 ghost use Rattle.rules.specs.Standing.{standingOf};
-ghost use Rattle.rules.specs.Valid.{partNumbered};
-ghost use Rattle.rules.specs.Records.{circuitSize, circuits, partAt, circuitAt, firstOctets, holderOctets, reservationOctets, spareOctets, tailOctets, partOctets, stateOctets, putCircuit, flagsAt, blankAt, tableLength};
+ghost use Rattle.rules.specs.Valid.{ifPresent, partNumbered};
+ghost use Rattle.rules.specs.Records.{circuitSize, circuits, partAt, circuitAt, firstOctets, holderOctets, reservationOctets, spareOctets, tailOctets, partOctets, stateOctets, putCircuit, flagsAt, zeroIfAbsent, blankAt, tableLength};
 
 // A circuit has 32 octets.
 pub const CIRCUIT_SIZE: usize = 32;
@@ -343,19 +344,33 @@ pub fn store(t: &mut [u8], i: usize, c: Circuit)
     octets::write(t, CIRCUIT_SIZE * i + RINGING, &s);
 }
 
-// Tells whether each flag of record i is 0 or 1, and, where there is a holder, the octet that says whether it rings.
+// Tells whether record i has no holder, or the octet that says whether the holder rings is 0 or 1.
+fn ringing_flag(t: &[u8], i: usize) -> bool
+    requires { ⌜ i < circuits (now t) ⌝ }
+    ensures { λ r. ⌜ r ≡ ifPresent (circuitAt (now (t .entry)) i .holder) (leb (getD (now (t .entry)) (circuitSize * i + 30) 0) 1) ⌝ }
+{
+    if held_at(t, i) {
+        t[CIRCUIT_SIZE * i + RINGING] <= 1
+    } else {
+        true
+    }
+}
+
+// Tells whether each flag of record i is 0 or 1, and, where there is a holder, the octet that says whether it rings. That octet is asked
+// first: in this order the compiler makes a shorter loop of the check.
 pub fn flags(t: &[u8], i: usize) -> bool
     requires { ⌜ i < circuits (now t) ⌝ }
     ensures { λ r. ⌜ r ≡ flagsAt (now (t .entry)) i ⌝ }
 {
     let o = CIRCUIT_SIZE * i;
-    if 1 < t[o] {
+    if !ringing_flag(t, i) {
         return false;
     }
-    if 1 < t[o + RESERVATION] {
-        return false;
+    if t[o] <= 1 {
+        t[o + RESERVATION] <= 1
+    } else {
+        false
     }
-    if t[o] == 1 { t[o + RINGING] <= 1 } else { true }
 }
 
 // Tells whether octets 0 to 11 of record i, the first of the holder's part, are zero.
@@ -385,12 +400,15 @@ pub fn reservation_zero(t: &[u8], i: usize) -> bool
     octets::zero_sixteen(t, CIRCUIT_SIZE * i + RESERVATION)
 }
 
-// Tells whether every octet of record i that belongs to no part is zero.
+// Tells whether every octet of record i that belongs to no part is zero. Where no holder rings, it is enough to ask the last four at once.
 fn spare_zero(t: &[u8], i: usize) -> bool
     requires { ⌜ i < circuits (now t) ⌝ }
     ensures { λ r. ⌜ r ≡ zeros (spareOctets (now (t .entry)) i) ⌝ }
 {
     let o = CIRCUIT_SIZE * i;
+    if tail_zero(t, i) {
+        return true;
+    }
     if t[o + SPARE] != 0 {
         return false;
     }
@@ -419,11 +437,28 @@ pub fn tail_rings(t: &[u8], i: usize) -> bool
     octets::read_four(t, CIRCUIT_SIZE * i + SPARE) == RINGS
 }
 
-// Tells whether a part is present, or its octets are zero.
-fn present_or(p: Part, zero: bool) -> bool
-    ensures { λ r. ⌜ r ≡ cond (p .present) true zero ⌝ }
+// Tells whether record i has a holder, or every octet of the holder's part is zero.
+fn holder_blank(t: &[u8], i: usize) -> bool
+    requires { ⌜ i < circuits (now t) ⌝ }
+    ensures { λ r. ⌜ r ≡ zeroIfAbsent (circuitAt (now (t .entry)) i .holder) (holderOctets (now (t .entry)) i) ⌝ }
 {
-    if p.present { true } else { zero }
+    if held_at(t, i) {
+        true
+    } else {
+        holder_zero(t, i)
+    }
+}
+
+// Tells whether record i has a reservation, or every octet of the reservation's part is zero.
+fn reservation_blank(t: &[u8], i: usize) -> bool
+    requires { ⌜ i < circuits (now t) ⌝ }
+    ensures { λ r. ⌜ r ≡ zeroIfAbsent (circuitAt (now (t .entry)) i .reservation) (reservationOctets (now (t .entry)) i) ⌝ }
+{
+    if reserved_at(t, i) {
+        true
+    } else {
+        reservation_zero(t, i)
+    }
 }
 
 // Tells whether what must be zero in record i is zero.
@@ -431,11 +466,10 @@ pub fn blank(t: &[u8], i: usize) -> bool
     requires { ⌜ i < circuits (now t) ⌝ }
     ensures { λ r. ⌜ r ≡ blankAt (now (t .entry)) i ⌝ }
 {
-    let c = circuit_at(t, i);
-    if !present_or(c.holder, holder_zero(t, i)) {
+    if !holder_blank(t, i) {
         return false;
     }
-    if !present_or(c.reservation, reservation_zero(t, i)) {
+    if !reservation_blank(t, i) {
         return false;
     }
     spare_zero(t, i)

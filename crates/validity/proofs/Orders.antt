@@ -8,6 +8,7 @@ use lib.ListN.{getD}
 use lib.Dec.{leb, eqb}
 use borrow.Author.Tests.{eqb-true, le-leb}
 use Rattle.octets.specs.Span.{span, zeros}
+use Rattle.octets.specs.Same.{same}
 use Rattle.octets.proofs.Tests.{and-left, and-right, and-both, halves, by-so, by-test}
 use Rattle.octets.proofs.Spans.{span-at, agree-first, zeros-agree, zeros-all, zeros-then}
 use Rattle.octets.proofs.Sames.{same-true}
@@ -20,7 +21,7 @@ use Rattle.rules.specs.Valid.{ifPresent, heldUnder, levelsOk, fieldsOk, pairOk,
 use Rattle.rules.specs.Records.{circuitSize, partAt, circuitAt, holderOctets, reservationOctets, spareOctets, tailOctets, stateOctets, flagsAt, zeroIfAbsent, blankAt, records}
 use Rattle.rules.proofs.Sound.{if-present, present-so}
 use Rattle.rules.proofs.Faults.{valid-is, record-valid}
-use Rattle.validity.specs.Order.{fieldsFit, fit, partInOrder, above, ringsInOrder, unreservedInOrder, afterHolder, inOrder}
+use Rattle.validity.specs.Order.{fieldsFit, fit, partInOrder, above, ringsInOrder, afterHolder, inOrder}
 
 module _ (t : List ℕ) (o w : ℕ) where
   abbrev part : Part  -- the part of w octets from octet o on
@@ -118,40 +119,52 @@ module _ (t : List ℕ) (i : ℕ) where
       }
 
   -- a holder that rings, with no reservation above
-  tail-rings : c .reservation .present ≡ false → ringsInOrder t i ≡ true → Tail
-  tail-rings free q =
-      let both = halves q in
-      let is = same-true (tailOctets t i) (0 ∷ 0 ∷ stateOctets true) (both .1) in
+  tail-rings : c .reservation .present ≡ false → c .holder .present ≡ true → same (tailOctets t i) (0 ∷ 0 ∷ stateOctets true) ≡ true → Tail
+  tail-rings free held q =
+      let is = same-true (tailOctets t i) (0 ∷ 0 ∷ stateOctets true) q in
       let one = tail-at (0 ∷ 0 ∷ stateOctets true) is 2 (circuitSize * i + 30) (omega arith) (omega arith) in
       record {
         small = ap (λ (k : ℕ). leb k 1) one;
-        nobody = λ e. absurd (true≢false (sym (both .0) ∙ e));
+        nobody = λ e. absurd (true≢false (sym held ∙ e));
         under = λ e. absurd (true≢false (sym e ∙ free));
         spare = spare-zero true is;
       }
 
+  -- where its octets are zero, there is no reservation
+  unreserved : zeros (reservationOctets t i) ≡ true → c .reservation .present ≡ false
+  unreserved z = ap (λ (k : ℕ). eqb k 1) (agree-first t (circuitSize * i + 12) [] 0 16 (zeros-agree t (circuitSize * i + 12) 16 z) (omega arith))
+
   -- the reservation's part by itself, the two together, and the last four octets
   rest : ifPresent (c .holder) (levelOk (c .holder .mark .level .0)) ≡ true → afterHolder t i ≡ true → Tail × (partInOrder (c .reservation) (reservationOctets t i) ≡ true) × (pairOk c ≡ true)
-  rest under h = by-so (c .reservation .present) there absent
+  rest under h = by-test (λ (b : Bool). b ≡ true → Rest) (zeros (tailOctets t i)) _ (ringsInOrder t i) still (λ z. rings) h
     where
       Rest : Type 0
       Rest = Tail × (partInOrder (c .reservation) (reservationOctets t i) ≡ true) × (pairOk c ≡ true)
 
-      by-flag : (x z : Bool) {b : Bool} → c .reservation .present ≡ b → cond (c .reservation .present) x z ≡ cond b x z
-      by-flag x z e = ap (λ (b : Bool). cond b x z) e
+      by-flag : {b : Bool} → c .reservation .present ≡ b → partInOrder (c .reservation) (reservationOctets t i) ≡ cond b (fit (c .reservation)) (zeros (reservationOctets t i))
+      by-flag e = ap (λ (b : Bool). cond b (fit (c .reservation)) (zeros (reservationOctets t i))) e
 
-      there : c .reservation .present ≡ true → Rest
-      there e =
-          let tests = halves (sym (by-flag _ (unreservedInOrder t i) e) ∙ h) in
-          let both = halves (tests .1) in
-          let tail = tail-zero (tests .0) in
-          (tail, by-flag (fit (c .reservation)) (zeros (reservationOctets t i)) e ∙ both .0, pair-above c under (tail .under e) (both .1))
+      there : Tail → c .reservation .present ≡ true → fit (c .reservation) && above c ≡ true → Rest
+      there tail e h =
+          let both = halves h in
+          (tail, by-flag e ∙ both .0, pair-above c under (tail .under e) (both .1))
 
-      absent : c .reservation .present ≡ false → Rest
-      absent e =
-          let tests = halves (sym (by-flag (zeros (tailOctets t i) && (fit (c .reservation) && above c)) (unreservedInOrder t i) e) ∙ h) in
-          let tail = by-test (λ (b : Bool). b ≡ true → Tail) (zeros (tailOctets t i)) true (ringsInOrder t i) (λ z q. tail-zero z) (λ z q. tail-rings e q) (tests .1) in
-          (tail, by-flag (fit (c .reservation)) (zeros (reservationOctets t i)) e ∙ tests .0, pair-absent c e)
+      absent : Tail → zeros (reservationOctets t i) ≡ true → Rest
+      absent tail z =
+          let free = unreserved z in
+          (tail, by-flag free ∙ z, pair-absent c free)
+
+      still : zeros (tailOctets t i) ≡ true → cond (c .reservation .present) (fit (c .reservation) && above c) (zeros (reservationOctets t i)) ≡ true → Rest
+      still z =
+          by-test (λ (b : Bool). b ≡ true → Rest) (c .reservation .present) (fit (c .reservation) && above c) (zeros (reservationOctets t i))
+          (there (tail-zero z))
+          (λ e. absent (tail-zero z))
+
+      rings : ringsInOrder t i ≡ true → Rest
+      rings q =
+          let held = halves q in
+          let both = halves (held .1) in
+          absent (tail-rings (unreserved (both .1)) (held .0) (both .0)) (both .1)
 
   -- the whole of the holder's part is zero where there is no holder
   holder-zero : Tail → zeroIfAbsent (c .holder) (span t (circuitSize * i) 12) ≡ true → zeroIfAbsent (c .holder) (holderOctets t i) ≡ true

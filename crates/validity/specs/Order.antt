@@ -23,20 +23,17 @@ partInOrder p octets = cond (p .present) (fit p) (zeros octets)
 abbrev pub above : Circuit → Bool  -- the reservation outranks the holder, if there is one
 above c = ifPresent (c .holder) (outranks (c .reservation .mark) (c .holder .mark))
 
--- record i has a holder that rings, and of its last four octets the others are zero
+-- record i has a holder that rings, and no reservation: the reservation's part is zero, and of the last four octets the others
 abbrev pub ringsInOrder : List ℕ → ℕ → Bool
-ringsInOrder t i = circuitAt t i .holder .present && same (tailOctets t i) (0 ∷ 0 ∷ stateOctets true)
+ringsInOrder t i =
+    circuitAt t i .holder .present && (same (tailOctets t i) (0 ∷ 0 ∷ stateOctets true) && zeros (reservationOctets t i))
 
--- in record i, which has no reservation, the reservation's part is zero, and of the last four octets either all are, or all but that of a holder
--- who rings
-abbrev pub unreservedInOrder : List ℕ → ℕ → Bool
-unreservedInOrder t i = zeros (reservationOctets t i) && cond (zeros (tailOctets t i)) true (ringsInOrder t i)
-
--- in record i a reservation is fit and above its holder, and the last four octets are zero; with no reservation it is `unreservedInOrder`
+-- in record i the last four octets are zero, and the reservation's part is zero, or fit and above its holder; or the holder rings
 abbrev pub afterHolder : List ℕ → ℕ → Bool
 afterHolder t i =
-    cond (circuitAt t i .reservation .present) (zeros (tailOctets t i) && (fit (circuitAt t i .reservation) && above (circuitAt t i)))
-    (unreservedInOrder t i)
+    cond (zeros (tailOctets t i))
+    (cond (circuitAt t i .reservation .present) (fit (circuitAt t i .reservation) && above (circuitAt t i)) (zeros (reservationOctets t i)))
+    (ringsInOrder t i)
 
 unfoldable pub inOrder : List ℕ → ℕ → Bool  -- in record i the first of the holder's part is in order, and so is the rest
 inOrder t i = partInOrder (circuitAt t i .holder) (firstOctets t i) && afterHolder t i

@@ -17,7 +17,7 @@ ghost use Rattle.rules.specs.Fields.{pointCodeOk};
 ghost use Rattle.rules.specs.Valid.{ifPresent, heldUnder, reservedUnder, levelsOk, fieldsOk, pairOk, recordVerdict, recordsTo, partsTo};
 ghost use Rattle.rules.specs.Valid as rule;
 ghost use Rattle.rules.specs.Records.{circuitAt, circuits, flagsAt, firstOctets, records, checked};
-ghost use Rattle.validity.specs.Order.{fieldsFit, partInOrder, ringsInOrder, unreservedInOrder, inOrder};
+ghost use Rattle.validity.specs.Order.{fieldsFit, partInOrder, ringsInOrder, inOrder};
 ghost use Rattle.validity.specs.Order as order;
 ghost use Rattle.validity.specs.Code.{reasonDigit, digitOf, codeOf, reasonOf, checkCoded};
 
@@ -177,32 +177,18 @@ fn holder_in_order(t: &[u8], i: usize) -> bool
     }
 }
 
-// Tells whether record i has a holder that rings, and of its last four octets the others are zero.
+// Tells whether record i has a holder that rings, and no reservation: the reservation's part is zero, and of the last four octets the others.
 fn rings_in_order(t: &[u8], i: usize) -> bool
     requires { ⌜ i < circuits (now t) ⌝ }
     ensures { λ r. ⌜ r ≡ ringsInOrder (now (t .entry)) i ⌝ }
 {
-    if table::held_at(t, i) {
-        table::tail_rings(t, i)
-    } else {
-        false
-    }
-}
-
-// Tells whether in record i, which has no reservation, the reservation's part is zero, and of the last four octets either all are, or all but
-// that of a holder who rings.
-fn unreserved_in_order(t: &[u8], i: usize) -> bool
-    requires { ⌜ i < circuits (now t) ⌝ }
-    ensures { λ r. ⌜ r ≡ unreservedInOrder (now (t .entry)) i ⌝ }
-{
-    if !table::reservation_zero(t, i) {
+    if !table::held_at(t, i) {
         return false;
     }
-    if table::tail_zero(t, i) {
-        true
-    } else {
-        rings_in_order(t, i)
+    if !table::tail_rings(t, i) {
+        return false;
     }
+    table::reservation_zero(t, i)
 }
 
 // Tells whether nobody holds the circuit, or one whom its reservation outranks.
@@ -217,7 +203,7 @@ fn above(c: Circuit) -> bool
 }
 
 // Tells whether record i is in order: then no reason applies to it. Only where there is a reservation are the two parts held against each
-// other.
+// other. A holder that rings is judged apart.
 fn in_order(t: &[u8], i: usize) -> bool
     requires { ⌜ i < circuits (now t) ⌝ }
     ensures { λ r. ⌜ r ≡ inOrder (now (t .entry)) i ⌝ }
@@ -225,11 +211,11 @@ fn in_order(t: &[u8], i: usize) -> bool
     if !holder_in_order(t, i) {
         return false;
     }
-    if !table::reserved_at(t, i) {
-        return unreserved_in_order(t, i);
-    }
     if !table::tail_zero(t, i) {
-        return false;
+        return rings_in_order(t, i);
+    }
+    if !table::reserved_at(t, i) {
+        return table::reservation_zero(t, i);
     }
     if !fit(table::reservation_at(t, i)) {
         return false;

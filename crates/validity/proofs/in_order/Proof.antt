@@ -20,7 +20,7 @@ returns-2 c = search (both, if-false) depth 8
 
 returns-3 : tie.Need-returns-3
 unfolding inOrder
-returns-3 c = search (both, if-true) depth 8
+returns-3 c = search (both, if-true, if-false) depth 8
 
 -- of a reservation that is there it is asked that it is fit, and above its holder
 reserved : {z : Bool} (c : tie.After-fit) → let a = c .before .before .before .before .before .before .before .before .before .args in let x = circuitAt (now (a .t)) (a .i) in z ≡ fit (x .reservation) && above x → z ≡ inOrder (now (a .t)) (a .i)
@@ -29,8 +29,8 @@ reserved c last =
     let three = c .before .before .before in
     let five = three .before .before in
     and-on _ _ (five .before .before .holder-in-order .ensures) (not-false _ (five .before .if1 .left))
-    (if-true _ _ _ (five .reserved-at .ensures) (not-false _ (three .before .if2 .left))
-    (and-on _ _ (three .tail-zero .ensures) (not-false _ (c .before .before .if3 .left)) last))
+    (if-true _ _ _ (five .tail-zero .ensures) (not-false _ (three .before .if2 .left))
+    (if-true _ _ _ (three .reserved-at .ensures) (not-false _ (c .before .before .if3 .left)) last))
 
 returns-4 : tie.Need-returns-4
 returns-4 c =
@@ -53,6 +53,7 @@ in-order-spec =
     (λ c κs. search needs)
     (λ c κs. search needs)
     returns-2
+    (λ c κs. search needs)
     (λ c κs. search needs)
     returns-3
     (λ c κs. search needs)

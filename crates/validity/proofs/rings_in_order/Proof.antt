@@ -1,4 +1,4 @@
--- Held, and ringing.
+-- Held, ringing, and not reserved.
 use Rattle.octets.proofs.Tests.{both}
 use borrow.Author.Needs.{needs}
 use Rattle.validity.proofs.rings_in_order.Statement.{statement}
@@ -9,6 +9,8 @@ rings-in-order-spec =
     tie.close
     (tie.spec
     (λ c κs. search needs)
+    (λ c. search both depth 8)
     (λ c κs. search needs)
-    (λ c. search both)
-    (λ c. search both))
+    (λ c. search both depth 8)
+    (λ c κs. search needs)
+    (λ c. search both depth 8))
