@@ -26,6 +26,8 @@ pub mod Passed
 pub mod Filled
 pub mod OnHolder
 pub mod MarkOff
+pub mod Ended
+pub mod Steps
 pub mod Ringing
 pub mod Carried
 pub mod Settled
