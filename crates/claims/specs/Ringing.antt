@@ -25,7 +25,7 @@ pub record EndsRinging (t f place : List ℕ) (c : ℕ) : Type 0 where
   -- "9 is the accepting number, with the circuit in octets 2-3"
   pub accepted : eventNumber t f place ≡ number.nowAnswered
   pub answer : eventAnswer t f place ≡ answerFields number.nowAnswered 0 c nobodyLost nobodyLost
-  -- "octet 30 becomes 0"; the holder stays under its mark, and a reservation with its clock
+  -- octet 30 becomes 0; the holder stays under its mark, and a reservation with its clock
   pub octet : getD (eventTable t f place) (circuitSize * c + 30) 0 ≡ 0
   pub circuit :
       circuitAt (eventTable t f place) c
