@@ -15,7 +15,7 @@ use Rattle.rules.specs.Numbers as number
 use Rattle.rules.specs.Circuit.{withHolder, made}
 use Rattle.rules.specs.Answer.{answerOf}
 use Rattle.rules.specs.Valid.{valid}
-use Rattle.rules.specs.Records.{circuitSize, circuitAt, circuits, putCircuit, flagsAt, checkNumber, eventAt, answerSize, records}
+use Rattle.rules.specs.Records.{circuitSize, ringingOctet, circuitAt, circuits, putCircuit, flagsAt, checkNumber, eventAt, answerSize, records}
 use Rattle.rules.proofs.Sound.{present-so}
 use Rattle.rules.proofs.Records.{count-put, stored-same}
 use Rattle.rules.proofs.Faults.{valid-facts}
@@ -28,10 +28,10 @@ use Rattle.claims.specs.Ringing.{EndsRinging, RingingEnds}
 use Rattle.claims.proofs.OnHolder.{nobody-holds, still-sound, number-given, answer-given, table-made, circuit-made, others-stay}
 
 -- in a valid table u octet 30 of a holder that does not ring is 0
-octet-zero : (u : List ℕ) → valid records u ≡ true → (c : ℕ) → c < circuits u → circuitAt u c .holder .present ≡ true → circuitAt u c .ringing ≡ false → getD u (circuitSize * c + 30) 0 ≡ 0
+octet-zero : (u : List ℕ) → valid records u ≡ true → (c : ℕ) → c < circuits u → circuitAt u c .holder .present ≡ true → circuitAt u c .ringing ≡ false → ringingOctet u c ≡ 0
 unfolding records flagsAt
 octet-zero u v c l held still =
-    let b = getD u (circuitSize * c + 30) 0 in
+    let b = ringingOctet u c in
     let flags = valid-facts records u v .flags c l in
     let small = and-right (leb (getD u (circuitSize * c + 12) 0) 1) _ (and-right (leb (getD u (circuitSize * c) 0) 1) _ flags) in
     let most = leb-true b 1 (present-so (circuitAt u c .holder) (leb b 1) small held) in

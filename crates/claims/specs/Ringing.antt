@@ -1,16 +1,16 @@
 -- The customer says of a call that still rings (02, L7): "Operators lose calls in set-up. By source 002 circuits in transition aren't considered; 01
 -- was too simple." And: "Octet 30 becomes 1 at set-up and 0 at a new event kind 7 (answered, by reference, zero parameter)."
-use Prim.Native.Nat.{ℕ, _+_, _*_, _<_}
+use Prim.Native.Nat.{ℕ, _<_}
 use mathlib.Core.Path.{_≡_}
 use mathlib.Core.Logic.{_↔_, _≢_, _⊎_}
 use mathlib.Core.Bool.{true, false}
 use mathlib.Core.List.{List, [], _∷_, _++_}
-use lib.ListN.{length, getD}
+use lib.ListN.{length}
 use Rattle.octets.specs.Number.{Octets}
 use Rattle.rules.specs.declared.mark.Mark.{Mark}
 use Rattle.rules.specs.declared.circuit.Circuit.{Circuit}
 use Rattle.rules.specs.Numbers as number
-use Rattle.rules.specs.Records.{circuitSize, circuitAt, circuits, checkNumber, answerSize, answerNumber, answerDetail, nobodyLost, answerFields, emptyTable}
+use Rattle.rules.specs.Records.{ringingOctet, circuitAt, circuits, checkNumber, answerSize, answerNumber, answerDetail, nobodyLost, answerFields, emptyTable}
 use Rattle.route.specs.Entries.{eventNumber, eventTable, eventAnswer}
 use Rattle.claims.specs.History.{Turn, asked, history}
 use Rattle.claims.specs.Lists.{EventList, past}
@@ -26,7 +26,7 @@ pub record EndsRinging (t f place : List ℕ) (c : ℕ) : Type 0 where
   pub accepted : eventNumber t f place ≡ number.nowAnswered
   pub answer : eventAnswer t f place ≡ answerFields number.nowAnswered 0 c nobodyLost nobodyLost
   -- octet 30 becomes 0; the holder stays under its mark, and a reservation with its clock
-  pub octet : getD (eventTable t f place) (circuitSize * c + 30) 0 ≡ 0
+  pub octet : ringingOctet (eventTable t f place) c ≡ 0
   pub circuit :
       circuitAt (eventTable t f place) c
       ≡ record { holder = circuitAt t c .holder; reservation = circuitAt t c .reservation; clock = circuitAt t c .clock; ringing = false }

@@ -10,7 +10,7 @@ use rules::standing::Standing;
 ghost use mathlib.Core.Path.{_≡_};
 ghost use mathlib.Core.Bool.{true};
 ghost use Prim.Native.Nat.{_+_, _*_, _/_, _<_, _≤_};
-ghost use lib.ListN.{length, getD};
+ghost use lib.ListN.{length};
 ghost use lib.Dec.{leb};
 ghost use mathlib.Core.List.{_∷_, _++_};
 ghost use Rattle.octets.specs.Number.{octets};
@@ -19,7 +19,7 @@ ghost use Rattle.octets.specs.Same.{same};
 ghost use Rattle.rules.specs.Circuit.{sameMark, noPrecedence, isOf, free, preemptable, standing, overdue};
 ghost use Rattle.rules.specs.Standing.{standingOf};
 ghost use Rattle.rules.specs.Valid.{ifPresent, partNumbered};
-ghost use Rattle.rules.specs.Records.{circuitSize, circuits, partAt, circuitAt, firstOctets, holderOctets, reservationOctets, spareOctets, tailOctets, partOctets, stateOctets, putCircuit, flagsAt, zeroIfAbsent, blankAt, tableLength};
+ghost use Rattle.rules.specs.Records.{circuitSize, circuits, partAt, circuitAt, ringingOctet, firstOctets, holderOctets, reservationOctets, spareOctets, tailOctets, partOctets, stateOctets, putCircuit, flagsAt, zeroIfAbsent, blankAt, tableLength};
 
 // A circuit has 32 octets.
 pub const CIRCUIT_SIZE: usize = 32;
@@ -347,7 +347,7 @@ pub fn store(t: &mut [u8], i: usize, c: Circuit)
 // Tells whether record i has no holder, or the octet that says whether the holder rings is 0 or 1.
 fn ringing_flag(t: &[u8], i: usize) -> bool
     requires { ⌜ i < circuits (now t) ⌝ }
-    ensures { λ r. ⌜ r ≡ ifPresent (circuitAt (now (t .entry)) i .holder) (leb (getD (now (t .entry)) (circuitSize * i + 30) 0) 1) ⌝ }
+    ensures { λ r. ⌜ r ≡ ifPresent (circuitAt (now (t .entry)) i .holder) (leb (ringingOctet (now (t .entry)) i) 1) ⌝ }
 {
     if held_at(t, i) {
         t[CIRCUIT_SIZE * i + RINGING] <= 1
