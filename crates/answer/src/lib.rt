@@ -1,4 +1,7 @@
 // This crate says what is answered to an event.
+
+#![tactic(auto)]
+
 ghost use Rattle.std.specs.Prelude.{◌≡◌, cond, ◌||◌, ◌<◌, ◌≤◌};
 ghost use Rattle.rules.specs.Search.{count_to};
 ghost use Rattle.rules.specs.Circuit.{nobody, overdue};

@@ -1,4 +1,7 @@
 // This crate searches a route for the circuit that a call with some mark gets, and for the one that a call holds or has reserved.
+
+#![tactic(auto)]
+
 ghost use Rattle.std.specs.Prelude.{◌≡◌, cond, ◌+◌, ◌*◌, ◌<◌};
 ghost use Rattle.rules.specs.Search.{first_to};
 ghost use Rattle.rules.specs.Circuit.{is_of, free, rank};
@@ -53,7 +56,7 @@ fn glance(t: &[u8], by: Mark, i: usize, top: usize) -> usize
 }
 
 // This is the greatest rank so far, and the lowest circuit that has it; the rank is 0 where none was takeable.
-#[derive(Drop)]
+#[derive(Clone, Copy)]
 struct Best {
     rank: usize,
     at: usize,

@@ -1,4 +1,7 @@
 // The program reads the table from circuits.bin and events from standard input, and writes one line an event under a header.
+
+#![tactic(auto)]
+
 mod listing;
 
 ghost use Rattle.std.specs.Prelude.{◌*◌, ◌≤◌, ◌<◌, length};

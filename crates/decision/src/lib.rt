@@ -1,4 +1,7 @@
 // This crate says what is decided of an event over a table: the first refusal that applies, else what is done, and on which circuit.
+
+#![tactic(auto)]
+
 ghost use Rattle.std.specs.Prelude.{◌≡◌, false, ◌≤◌, ◌<◌};
 ghost use Rattle.rules.specs.Decision.{on_reservation, blocked, set_up, stands_nowhere, look_ahead, on_holder, cancel};
 ghost use Rattle.rules.specs.Choice.{reserved_by};

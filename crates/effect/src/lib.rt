@@ -1,4 +1,7 @@
 // This crate makes of a table what an outcome says.
+
+#![tactic(auto)]
+
 ghost use Rattle.std.specs.Prelude.{◌≡◌, cond, ◌<◌};
 ghost use Rattle.rules.specs.Circuit.{overdue, made};
 ghost use Rattle.rules.specs.Run.{sweep_to};

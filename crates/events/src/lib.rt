@@ -1,4 +1,7 @@
 // Events read from their octets, answers written in theirs and read again. No other code knows where their fields stand.
+
+#![tactic(auto)]
+
 ghost use Rattle.std.specs.Prelude.{◌≡◌, ◌+◌, ◌*◌, ◌≤◌, length};
 ghost use Rattle.octets.specs.Span.{span, put};
 ghost use Rattle.rules.specs.Records.{event_size, event_in, mark_in, reference_in, event_at, answer_size, answer_octets, answer_in, answer_number, answer_cause, answer_detail, lost_call, lost_reservation, is_lost, lost_reference};

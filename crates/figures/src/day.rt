@@ -30,7 +30,7 @@ fn keep(lefts: &mut [u8], k: usize, pair: Pair) {
 
 // This says what the pairs so far came to: how many they are, the holders of their tables, and whether the last one ended it. A table has at
 // most 256 holders, and there are at most 65,537 pairs, so that no sum is near 2^64.
-#[derive(Drop)]
+#[derive(Clone, Copy)]
 struct Day {
     pairs: usize,
     start: u64,

@@ -11,7 +11,7 @@ use streams::FULL_LIST;
 use tally::totals::MOST_LISTS;
 
 // This says how an input ended: by so many octets after its last full list, by a read that failed, or by a list that was refused.
-#[derive(Drop)]
+#[derive(Clone, Copy)]
 pub struct Ended {
     pub octets: usize,
     pub failed: bool,

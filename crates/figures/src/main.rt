@@ -1,5 +1,8 @@
 // The program applies events to tables, as decide does, and writes the figures of all of them: those of circuits.bin and standard input, or
 // those of the pairs of files, a table and its events, that its arguments name.
+
+#![tactic(auto)]
+
 mod day;
 mod files;
 mod input;

@@ -9,7 +9,7 @@ use events::EVENT_SIZE;
 use tally::totals::LISTS;
 
 // This says what one table and its events came to: its holders before them and after them, if a list of them was added, and how they ended.
-#[derive(Drop)]
+#[derive(Clone, Copy)]
 pub struct Pair {
     pub start: u64,
     pub end: u64,

@@ -1,4 +1,7 @@
 // The lamp map is four words of 64 lamps, lit where a circuit is free, and the number lit.
+
+#![tactic(auto)]
+
 ghost use Rattle.std.specs.Prelude.{◌≡◌, cond, ◌-◌, ◌≤◌, ◌<◌, min};
 ghost use Rattle.lamps.specs.Lamps.{lit_at, word, number_in, lowest_in, lit_map, dark_map, lamp_map};
 ghost use Rattle.rules.specs.Records.{circuits, most_circuits};
@@ -10,7 +13,7 @@ use rules::verdict::Check;
 
 // This is what the panel gets: the check's number and detail, how many lamps are lit, and the lamps.
 #[repr(C)]
-#[derive(Drop)]
+#[derive(Clone, Copy)]
 pub struct Lamps {
     pub number: u8,
     pub lit: u16,

@@ -1,4 +1,7 @@
 // C and Rust link these entries of the product, each of which but the version only calls another. The header is include/naustvri.h.
+
+#![tactic(auto)]
+
 ghost use Rattle.std.specs.Prelude.{◌≡◌};
 ghost use Rattle.rules.specs.Records.{checked};
 ghost use Rattle.fields.specs.Precedence as precedence;

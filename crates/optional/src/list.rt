@@ -7,7 +7,7 @@ ghost use Rattle.optional.specs.List.{cut, entry_at};
 const HEAD: usize = 3;
 
 // Where a parameter stands in a list: its contents go from `start` to `next`, where the next name stands. One that is cut short ends the list.
-#[derive(Drop)]
+#[derive(Clone, Copy)]
 pub struct Entry {
     pub whole: bool,
     pub name: u8,

@@ -13,7 +13,7 @@ pub const PRECEDENCE: u8 = 58;
 // What stands at a place. The number is 0, 61 or 62. At the end of the part and at a refusal the name, the length and the start of the contents are
 // 0, and `next` is the place itself; else `next` is the place of the next name.
 #[repr(C)]
-#[derive(Drop)]
+#[derive(Clone, Copy)]
 pub struct Parameter {
     pub number: u8,
     pub name: u8,

@@ -13,7 +13,7 @@ use rules::number;
 // Precedence in a part. The number is 0, 61, 62, 63 or 22. Where there is precedence, `found` is 1 and `start` is the place of its six octets. `end` is
 // how many octets the part has, its end octet with them. At a refusal all but the number is zero.
 #[repr(C)]
-#[derive(Drop)]
+#[derive(Clone, Copy)]
 pub struct Found {
     pub number: u8,
     pub found: u8,
@@ -23,7 +23,7 @@ pub struct Found {
 }
 
 // What was found so far, and whether the search goes on.
-#[derive(Drop)]
+#[derive(Clone, Copy)]
 pub struct Search {
     pub going: bool,
     pub result: Found,

@@ -10,7 +10,7 @@ use fields::precedence;
 use rules::number;
 
 // What was found of a list up to a place.
-#[derive(Drop)]
+#[derive(Clone, Copy)]
 pub struct Survey {
     pub whole: bool,
     pub place: usize,

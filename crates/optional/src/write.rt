@@ -15,7 +15,7 @@ use rules::{number, parameter};
 
 // What the writer did. The number is 0, 20, 22 or 63, and `end` is how many octets were written, its end octet with them; at a refusal it is 0.
 #[repr(C)]
-#[derive(Drop)]
+#[derive(Clone, Copy)]
 pub struct Written {
     pub number: u8,
     pub end: usize,

@@ -1,4 +1,7 @@
 // The program draws the lamp map of the table in circuits.bin, and again after the events on standard input.
+
+#![tactic(auto)]
+
 ghost use Rattle.std.specs.Prelude.{◌≤◌};
 ghost use Rattle.lines.specs.Text.{Written};
 ghost use Rattle.lines.specs.Panel.{most_letters};

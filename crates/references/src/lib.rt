@@ -1,5 +1,8 @@
 // This crate tells whether a call reference stands in two parts. A filter of bits says at once of most references that they are new;
 // only where all bits of one are set already are the earlier parts searched.
+
+#![tactic(auto)]
+
 ghost use Rattle.std.specs.Prelude.{◌≡◌, true, cond, ◌&&◌, ◌||◌, ◌+◌, ◌*◌, ◌<◌, ◌≤◌, length, ltb};
 ghost use Rattle.rules.specs.Circuit.{is_of};
 ghost use Rattle.rules.specs.Search.{first_to};

@@ -1,4 +1,7 @@
 // This crate applies one event, or a list of events, to a table: it decides, answers, and changes the table.
+
+#![tactic(auto)]
+
 ghost use Rattle.std.specs.Prelude.{◌≡◌, ◌&&◌, ◌+◌, ◌*◌, ◌/◌, ◌%◌, ◌≤◌, length, eqb};
 ghost use mathlib.Core.List.{flatten};
 ghost use Rattle.octets.specs.Span.{put};

@@ -7,7 +7,7 @@ ghost use Rattle.rules.specs.Circuit.{outranks};
 use crate::level::Level;
 use crate::mark::Mark;
 
-#[derive(Drop)]
+#[derive(Clone, Copy)]
 pub struct Standing {
     pub held: bool,
     pub reserved: bool,

@@ -1,4 +1,7 @@
 // The programs' octets come from the table file and standard input, or from files that their arguments name, and go to standard output.
+
+#![tactic(auto)]
+
 pub mod named;
 
 ghost use Rattle.std.specs.Prelude.{◌≡◌, ◌*◌, ◌≤◌, length};
@@ -27,7 +30,7 @@ pub fn list_room() -> [u8; FULL_LIST]
 }
 
 // This says how many octets were read, and whether a read failed.
-#[derive(Drop)]
+#[derive(Clone, Copy)]
 pub struct Taken {
     pub octets: usize,
     pub failed: bool,

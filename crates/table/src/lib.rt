@@ -1,5 +1,8 @@
 // Circuits in the octets of a table: read, stored, and whether they are zero. No other code but the program `vectors` knows where a
 // circuit's fields stand.
+
+#![tactic(auto)]
+
 ghost use Rattle.std.specs.Prelude.{◌≡◌, true, ◌+◌, ◌*◌, ◌/◌, ◌<◌, ◌≤◌, length, leb, ◌∷◌, ◌++◌};
 ghost use Rattle.octets.specs.Number.{octets};
 ghost use Rattle.octets.specs.Span.{put, zeros};

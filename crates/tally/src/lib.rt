@@ -1,4 +1,7 @@
 // This crate carries out a list of events as the list entry does, and adds it to the day's figures.
+
+#![tactic(auto)]
+
 pub mod totals;
 
 ghost use Rattle.std.specs.Prelude.{◌≡◌, ◌&&◌, ◌+◌, ◌*◌, ◌/◌, ◌≤◌, length, eqb};

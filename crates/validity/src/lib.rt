@@ -1,5 +1,8 @@
 // The check of a table finds its first fault, and gives its reason and its record. Each record is first looked at part by part, which is quick
 // and enough where every party stands under a precedence; the reasons are gone through, in their order, only where that finds something.
+
+#![tactic(auto)]
+
 ghost use Rattle.std.specs.Prelude.{◌≡◌, ◌&&◌, ◌+◌, ◌*◌, ◌^◌, ◌<◌};
 ghost use Rattle.rules.specs.Fields.{point_code_ok};
 ghost use Rattle.rules.specs.Valid.{if_present, held_under, reserved_under, levels_ok, fields_ok, pair_ok, record_verdict, records_to, parts_to};

@@ -1,5 +1,8 @@
 // The program plays both sides of every line of document 01, and of what document 02 adds: a script on standard input is written out again with what
 // each row answers after it.
+
+#![tactic(auto)]
+
 mod asked;
 mod field;
 mod part;
