@@ -51,6 +51,7 @@ const SPARE_SECOND: usize = 29;
 const SPARE_THIRD: usize = 31;
 
 // Tells whether a table of n octets is 1 to 256 whole circuits.
+#[tactic(auto, unfolding(rules::specs::Records::table_length))]
 pub fn right_length(n: usize) -> bool
     ensures { result ≡ table_length n }
 {
@@ -356,6 +357,7 @@ fn ringing_flag(t: &[u8], i: usize) -> bool
 
 // Tells whether each flag of record i is 0 or 1, and, where there is a holder, the octet that says whether it rings. That octet is asked
 // first: in this order the compiler makes a shorter loop of the check.
+#[tactic(auto, unfolding(rules::specs::Records::flags_at))]
 pub fn flags(t: &[u8], i: usize) -> bool
     requires { i < circuits t.now }
     ensures { result ≡ flags_at t.now i }
@@ -460,6 +462,7 @@ fn reservation_blank(t: &[u8], i: usize) -> bool
 }
 
 // Tells whether what must be zero in record i is zero.
+#[tactic(auto, unfolding(rules::specs::Records::blank_at))]
 pub fn blank(t: &[u8], i: usize) -> bool
     requires { i < circuits t.now }
     ensures { result ≡ blank_at t.now i }
