@@ -22,7 +22,7 @@ use Rattle.rules.specs.declared.search.Found.TheVariants.{At, Nothing}
 use Rattle.rules.specs.Circuit.{is_of}
 use Rattle.rules.specs.Search.{or_else, first_to, found}
 use Rattle.rules.specs.Valid.{part_numbered, clash, repeated}
-use Rattle.rules.proofs.Searches.{or_nothing, first_cong, nothing-found, some-found}
+use Rattle.rules.proofs.Searches.{first_cong, nothing-found, some-found}
 use Rattle.references.specs.Filter.{spread, word_of, bits_in, word_for, already, in_range, stands_to, repeated_in, Grown, Seen}
 
 -- ---- bits in words

@@ -31,6 +31,7 @@ fn wide(x: u8) -> u64
 
 // Gives the stem of a reference, which says in which pass it is noted. It leaves the last octet out, so that whoever is passed over is so
 // with one multiplication.
+#[tactic(auto, unfolding(crate::specs::Filter::stem))]
 fn stem(r: Reference) -> u64
     ensures stem { result ≡ filter.stem r }
     ensures below { result < stems }
@@ -39,6 +40,7 @@ fn stem(r: Reference) -> u64
 }
 
 // Gives a number in which each octet of a reference tells on many bits, so that the numbers of like references differ.
+#[tactic(auto, unfolding(crate::specs::Filter::spread))]
 fn spread(r: Reference) -> u64
     ensures { result ≡ filter.spread r }
 {

@@ -1,0 +1,34 @@
+-- The lowest of all passes is the first that is repeated, where it is a part's number at all.
+use Rattle.std.proofs.Common.{◌*◌, sym, arith}
+use Rattle.rules.specs.Valid.{repeated}
+use Rattle.rules.specs.Records.{circuit_at, circuits}
+use Rattle.rules.proofs.Searches.{first_of, first_none}
+use Rattle.references.proofs.Passes.{sift_more, sifted_all}
+use Rattle.references.proofs.first_repeated.Goals as goal
+
+pub loop-from-preserved : goal.loop-from-preserved
+loop-from-preserved c =
+    let at = c.loop-from in (
+      omega (arith, at.invariant.0),
+      omega (arith, at.invariant.0, at.invariant.1),
+      sift_more (circuit_at c.args.t.now) _ at.from at.to at.lowest at.invariant.2 c.pass.ensures c.least-lowest.ensures,
+    )
+
+pub returns-then-lowest-n : goal.returns-then-lowest-n
+returns-then-lowest-n c =
+    let t = c.args.t.now in
+    let at = c.loop-from in
+    let counted = c.count-n.ensures in
+    let s = at.invariant.2 in
+    sym
+    (first_of (repeated (circuit_at t)) (2 * circuits t) at.lowest (omega arith)
+    (sifted_all (circuit_at t) _ at.from at.lowest c.loop-from-test.false s) (s.there (omega arith)))
+
+pub returns-else-lowest-n : goal.returns-else-lowest-n
+returns-else-lowest-n c =
+    let t = c.args.t.now in
+    let at = c.loop-from in
+    let counted = c.count-n.ensures in
+    sym
+    (first_none (repeated (circuit_at t)) (2 * circuits t)
+    (λ j l. sifted_all (circuit_at t) _ at.from at.lowest c.loop-from-test.false at.invariant.2 j (omega arith)))

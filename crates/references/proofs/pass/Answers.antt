@@ -1,0 +1,43 @@
+-- The holder or the reservation of the circuit repeats, or the loop goes on, or none repeated.
+use Rattle.std.proofs.Common.{◌≡◌, ℕ, ◌+◌, ◌*◌, Bool, false, sym, ap, ◌∙◌, subst, arith, add-zero, below_more}
+use Rattle.rules.specs.declared.circuit.Circuit.{Circuit}
+use Rattle.rules.specs.Records.{circuit_at}
+use Rattle.references.specs.Filter.{repeated_in, Seen}
+use Rattle.references.proofs.Passes.{lowest_at, lowest-none}
+use Rattle.references.proofs.pass.Goals as goal
+
+-- what the note on part k said, of the part by its other number
+said : (x : ℕ → Circuit) (from to : ℕ) {k m : ℕ} → k ≡ m → {b c : Bool} → b ≡ repeated_in from to x k → b ≡ c → repeated_in from to x m ≡ c
+said x from to e s t = ap (repeated_in from to x) (sym e) ∙ sym s ∙ t
+
+pub returns-then-note : goal.returns-then-note
+returns-then-note c =
+    let a = c.args in
+    let i = c.loop-i.i in
+    lowest_at (repeated_in a.from a.to (circuit_at a.t.now)) (2 * a.n) (2 * i) (omega arith) c.loop-i.invariant.1
+    (said (circuit_at a.t.now) a.from a.to (add-zero (2 * i)) c.note.ensures.twice c.if-note.true)
+
+pub returns-then-note-2 : goal.returns-then-note-2
+returns-then-note-2 c =
+    let a = c.args in
+    let x = circuit_at a.t.now in
+    let i = c.loop-i.i in
+    let past = below_more (λ (j : ℕ). repeated_in a.from a.to x j ≡ false) (2 * i) c.loop-i.invariant.1 (said x a.from a.to (add-zero (2 * i)) c.note.ensures.twice c.if-note.false) in
+    lowest_at (repeated_in a.from a.to x) (2 * a.n) (2 * i + 1) (omega arith) past (sym c.note-in-loop-i.ensures.twice ∙ c.if-note-2.true)
+
+pub loop-i-preserved : goal.loop-i-preserved
+loop-i-preserved c =
+    let a = c.args in
+    let x = circuit_at a.t.now in
+    let i = c.loop-i.i in
+    let past = below_more (λ (j : ℕ). repeated_in a.from a.to x j ≡ false) (2 * i) c.loop-i.invariant.1 (said x a.from a.to (add-zero (2 * i)) c.note.ensures.twice c.if-note.false) in
+    let next : 2 * i + 1 + 1 ≡ 2 * (i + 1) + 0 = omega arith in (
+      omega arith,
+      (λ j l. below_more (λ (j : ℕ). repeated_in a.from a.to x j ≡ false) (2 * i + 1) past (sym c.note-in-loop-i.ensures.twice ∙ c.if-note-2.false) j (omega arith)),
+      subst (Seen x a.from a.to _) next c.note-in-loop-i.ensures.words,
+    )
+
+pub returns : goal.returns
+returns c =
+    let a = c.args in
+    lowest-none (repeated_in a.from a.to (circuit_at a.t.now)) (2 * a.n) (λ j l. c.loop-i.invariant.1 j (omega arith))
