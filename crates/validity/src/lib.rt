@@ -47,6 +47,7 @@ fn reservation_level_ok(p: Part) -> bool
 }
 
 // Tells whether the level of each part of record i that is present is as it must be.
+#[tactic(auto, unfolding(rules::specs::Valid::levels_ok))]
 fn levels_ok(t: &[u8], i: usize) -> bool
     requires { i < circuits t.now }
     ensures { result ≡ levels_ok (circuit_at t.now i) }
@@ -59,6 +60,7 @@ fn levels_ok(t: &[u8], i: usize) -> bool
 }
 
 // Tells whether the two top bits of a reference's last octet, which are spare, are 0.
+#[tactic(auto, unfolding(rules::specs::Fields::point_code_ok))]
 fn point_code_ok(reference: Reference) -> bool
     ensures { result ≡ point_code_ok reference }
 {
@@ -86,6 +88,7 @@ fn part_ok(p: Part) -> bool
 }
 
 // Tells whether the digits and the spare bits of each part of record i that is present are right.
+#[tactic(auto, unfolding(rules::specs::Valid::fields_ok))]
 fn fields_ok(t: &[u8], i: usize) -> bool
     requires { i < circuits t.now }
     ensures { result ≡ fields_ok point_code_ok (circuit_at t.now i) }
@@ -98,6 +101,7 @@ fn fields_ok(t: &[u8], i: usize) -> bool
 }
 
 // Tells whether a reservation outranks the holder that it stands above, if there is one, and that holder may lose the circuit.
+#[tactic(auto, unfolding(rules::specs::Valid::pair_ok))]
 fn pair_ok(c: Circuit) -> bool
     ensures { result ≡ pair_ok c }
 {
@@ -133,6 +137,7 @@ fn digit(reason: Reason) -> u64
 }
 
 // Gives the last digit of the number of the first reason that applies to record i by itself, or 0 where none does.
+#[tactic(auto, unfolding(rules::specs::Valid::record_verdict, rules::specs::Records::records, crate::specs::Code::digit_of))]
 fn record(t: &[u8], i: usize) -> u64
     requires { i < circuits t.now }
     ensures { result ≡ digit_of (record_verdict records t.now i) }
@@ -203,6 +208,7 @@ fn above(c: Circuit) -> bool
 
 // Tells whether record i is in order: then no reason applies to it. Only where there is a reservation are the two parts held against each
 // other. A holder that rings is judged apart.
+#[tactic(auto, unfolding(crate::specs::Order::in_order))]
 fn in_order(t: &[u8], i: usize) -> bool
     requires { i < circuits t.now }
     ensures { result ≡ in_order t.now i }
@@ -256,6 +262,7 @@ fn each_record(t: &[u8]) -> u64
 }
 
 // Gives the code of the verdict on the references: the first that stands in an earlier part is a fault.
+#[tactic(auto, unfolding(rules::specs::Records::records, crate::specs::Code::code_of))]
 fn each_reference(t: &[u8]) -> u64
     ensures { result ≡ code_of (parts_to records t.now (circuits t.now)) }
 {
@@ -277,6 +284,7 @@ fn fault(t: &[u8]) -> u64
 }
 
 // Gives the reason whose number has this last digit.
+#[tactic(auto, unfolding(crate::specs::Code::reason_of))]
 fn reason(digit: u64) -> Reason
     ensures { result ≡ reason_of digit }
 {

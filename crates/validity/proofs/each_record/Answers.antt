@@ -1,0 +1,44 @@
+-- The code follows from the first record with a fault.
+use Rattle.std.proofs.Common.{◌≡◌, ℕ, ◌+◌, ◌*◌, not, List, sym, ap, ◌∙◌, arith, below_more}
+use Rattle.rules.specs.declared.search.Found.{Found}
+use Rattle.rules.specs.declared.verdict.Verdict.TheVariants.{Valid}
+use Rattle.rules.specs.Search.{first_to, found}
+use Rattle.rules.specs.Valid.{record_verdict, records_to}
+use Rattle.rules.specs.Records.{records, circuits}
+use Rattle.rules.proofs.Searches.{first_of, first_none}
+use Rattle.rules.proofs.FirstFault.{bad, first_fault}
+use Rattle.validity.specs.Code.{code_of}
+use Rattle.validity.proofs.Codes.{digit_below, digit-zero, digit-fault, located}
+use Rattle.validity.proofs.each_record.Goals as goal
+
+-- the code of what the first fault is
+follows : (t : List ℕ) {r : Found} → first_to (bad records t) (circuits t) ≡ r → code_of (found r (record_verdict records t) Valid) ≡ code_of (records_to records t (circuits t))
+follows t e =
+    ap code_of
+    (ap (λ (f : Found). found f (record_verdict records t) Valid) (sym e) ∙ sym (first_fault records t (circuits t)))
+
+pub code-requires : goal.code-requires
+code-requires c =
+    let digit = c.judged-found.ensures in
+    omega (arith, c.loop-i.invariant.2, digit_below (record_verdict records c.args.t.now c.loop-i.i))
+
+pub returns-then-found-ne0 : goal.returns-then-found-ne0
+returns-then-found-ne0 c =
+    let t = c.args.t.now in
+    let i = c.loop-i.i in
+    let digit = c.judged-found.ensures in
+    let fault = digit-fault (record_verdict records t i) (λ z. c.if-found-ne0.true (digit ∙ z)) in
+    c.code.ensures ∙ ap (λ (d : ℕ). 8 * i + d) digit ∙ located records t i fault
+    ∙ follows t (first_of (bad records t) (circuits t) i (let n = c.loop-i.invariant.2 in omega arith) c.loop-i.invariant.1 (ap not fault))
+
+pub loop-i-preserved : goal.loop-i-preserved
+loop-i-preserved c =
+    let t = c.args.t.now in
+    let sound = digit-zero (record_verdict records t c.loop-i.i) (sym c.judged-found.ensures ∙ c.if-found-ne0.false) in
+    (omega arith, below_more _ _ c.loop-i.invariant.1 (ap not sound), c.loop-i.invariant.2)
+
+pub returns : goal.returns
+unfolding code_of
+returns c =
+    let t = c.args.t.now in
+    follows t (first_none (bad records t) (circuits t) (λ j l. c.loop-i.invariant.1 j (let n = c.loop-i.invariant.2 in omega arith)))
