@@ -2,12 +2,10 @@
 use Prim.Native.Nat.{ℕ, zero, suc, ◌+◌, ◌-◌, ◌*◌, ◌/◌, ◌%◌, ◌^◌, ◌<◌, ◌≤◌}
 use mathlib.Core.Path.{◌≡◌, refl, sym, ap, ap₂, ◌∙◌}
 use mathlib.Core.Bool.{Bool, true, false, cond}
-use native.Mathlib.Nat.{not-suc-le-zero, add-zero, div-div-eq-div-mul, pow-succ', le_of_eq, lt_of_le_of_lt, lt_of_lt_of_le}
+use native.Mathlib.Nat.{not-suc-le-zero, add-zero, pow-succ', le_of_eq, lt_of_le_of_lt, lt_of_lt_of_le}
 use native.Mathlib.Omega.{arith}
-use lib.Dec.{eqb}
 use lib.Pow.{pow_mono}
 use lib.Count.{count_trailing_zeros, under}
-use borrow.Author.Tests.{eq-eqb, ne_eqb}
 use Rattle.octets.specs.Bit.{bit}
 use Rattle.octets.proofs.Bits.{bit_low, bit_up}
 use Rattle.rules.specs.declared.search.Found.TheVariants.{At}
