@@ -71,6 +71,7 @@ fn another(reference: Reference, p: Part) -> Part
 }
 
 // Gives the answer to an act on circuit i, which was c.
+#[tactic(auto, unfolding(rules::specs::Answer::answer_of))]
 fn acted(e: Event, a: Act, i: u16, c: Circuit) -> Answer
     ensures { result ≡ answer_of (λ _. c) 0 e (Outcome.Do a i) }
 {
@@ -120,6 +121,7 @@ fn removed(t: &[u8], clock: u32) -> u16
 }
 
 // Gives the answer to what was decided, from the table before it is changed.
+#[tactic(auto, unfolding(rules::specs::Answer::answer_of))]
 pub fn answered(t: &[u8], e: Event, o: Outcome) -> Answer
     requires t_bound { circuits t.now ≤ most_circuits }
     requires ready { Ready t.now o }

@@ -19,6 +19,7 @@ use rules::search::Found;
 use rules::verdict::Verdict;
 
 // Decides a set-up on its own reservation, which stands on circuit i.
+#[tactic(auto, unfolding(rules::specs::Decision::on_reservation))]
 fn on_reservation(e: Event, reservation: Part, i: usize) -> Outcome
     ensures { result ≡ on_reservation e reservation i }
 {
@@ -47,6 +48,7 @@ fn stands_nowhere(t: &[u8], reference: Reference) -> bool
 }
 
 // Decides a set-up by a call that has reserved circuit i.
+#[tactic(auto, unfolding(rules::specs::Decision::set_up))]
 fn set_up_reserver(t: &[u8], e: Event, i: usize) -> Outcome
     requires i_bound { i < circuits t.now }
     requires reference_value { reserved_by (circuit_at t.now) (circuits t.now) e.reference ≡ Found.At i }
@@ -86,6 +88,7 @@ fn set_up(t: &[u8], e: Event) -> Outcome
 }
 
 // Decides a look-ahead.
+#[tactic(auto, using(octets::proofs::Tests::ways), unfolding(rules::specs::Decision::look_ahead))]
 fn look_ahead(t: &[u8], e: Event) -> Outcome
     ensures { result ≡ look_ahead (circuit_at t.now) (circuits t.now) e }
 {
@@ -106,6 +109,7 @@ fn look_ahead(t: &[u8], e: Event) -> Outcome
 }
 
 // Decides an event that does an act on the circuit that its call holds.
+#[tactic(auto, unfolding(rules::specs::Decision::on_holder))]
 fn on_holder(t: &[u8], e: Event, a: Act) -> Outcome
     ensures { result ≡ on_holder (circuit_at t.now) (circuits t.now) a e }
 {
@@ -117,6 +121,7 @@ fn on_holder(t: &[u8], e: Event, a: Act) -> Outcome
 }
 
 // Decides a cancel.
+#[tactic(auto, unfolding(rules::specs::Decision::cancel))]
 fn cancel(t: &[u8], e: Event) -> Outcome
     ensures { result ≡ cancel (circuit_at t.now) (circuits t.now) e }
 {
@@ -128,6 +133,7 @@ fn cancel(t: &[u8], e: Event) -> Outcome
 }
 
 // Decides a well-formed event over a valid table, by the kind of the event.
+#[tactic(auto, unfolding(rules::specs::Decision::decision))]
 fn decision(t: &[u8], e: Event) -> Outcome
     ensures { result ≡ rule.decision (circuit_at t.now) (circuits t.now) e }
 {
@@ -144,6 +150,7 @@ fn decision(t: &[u8], e: Event) -> Outcome
 }
 
 // Decides an event over a table, of which the verdict is known.
+#[tactic(auto, unfolding(rules::specs::Run::outcome_of))]
 pub fn outcome_of(t: &[u8], e: Event, verdict: Verdict) -> Outcome
     requires t_bound { circuits t.now ≤ most_circuits }
     requires verdict_value { verdict ≡ table.verdict records t.now }

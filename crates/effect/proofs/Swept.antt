@@ -1,9 +1,8 @@
 -- A sweep that has come to circuit i has not touched it, so it finds there what stood there at first.
-use Prim.Native.Nat.{ℕ, zero, suc, ◌/◌, ◌+◌, ◌≤◌}
+use Prim.Native.Nat.{ℕ, zero, suc, ◌+◌, ◌≤◌}
 use mathlib.Core.Path.{◌≡◌, refl, sym, ap, ◌∙◌}
 use mathlib.Core.Bool.{cond}
 use mathlib.Core.List.{List}
-use lib.ListN.{length}
 use native.Mathlib.Numerals.{add-one}
 use native.Mathlib.Omega.{arith}
 use Rattle.octets.proofs.Tests.{by_test}

@@ -64,6 +64,7 @@ fn sweep(t: &mut [u8], e: Event)
 }
 
 // A refusal changes nothing, an act changes its circuit alone, and a clock event removes what is overdue.
+#[tactic(auto, unfolding(rules::specs::Run::effect, rules::specs::Records::records))]
 pub fn effect(t: &mut [u8], e: Event, o: Outcome)
     requires { Ready t.old o }
     ensures { t.new ≡ run.effect records t.old e o }
