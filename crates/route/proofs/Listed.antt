@@ -6,7 +6,7 @@ use native.Mathlib.Numerals.{add-one}
 use native.Mathlib.Nat.{zero-add}
 use native.Mathlib.Omega.{arith}
 use lib.ListN.{length, length-append}
-use Rattle.octets.specs.Span.{span, put}
+use Rattle.octets.specs.Span.{put}
 use Rattle.octets.proofs.Spans.{put-put}
 use Rattle.rules.specs.Run.{after, answer_record, run, answer_records}
 use Rattle.rules.specs.Records.{records, answer_size, event_in}

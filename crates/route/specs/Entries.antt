@@ -1,7 +1,6 @@
 -- This is 01, "Numbers given back": what one event, or a list, gives back and leaves in table and answers. At 20 no buffer is written.
 use Rattle.std.specs.Prelude.{ℕ, zero, suc, ◌+◌, ◌*◌, ◌/◌, Bool, cond, ◌&&◌, length, eqb}
 use mathlib.Core.List.{List, [], ◌∷◌, ◌++◌, flatten}
-use Rattle.octets.specs.Span.{span}
 use Rattle.rules.specs.declared.answer.Answer.{Answer}
 use Rattle.rules.specs.Numbers.{done, wrong_length}
 use Rattle.rules.specs.Run.{after, answered, answer_record, run, answer_records}

@@ -77,6 +77,7 @@ pub fn event(t: &mut [u8], e: &[u8], a: &mut [u8]) -> u8
 }
 
 // Tells whether the lengths of a table, its events and their answer places are right.
+#[tactic(auto, unfolding(rules::specs::Records::list_length))]
 pub fn list_lengths(t: usize, es: usize, places: usize) -> bool
     ensures { result ≡ table_length t && list_length es places }
 {
