@@ -1,0 +1,35 @@
+-- The event is applied, and counted by what is told of it and by its answer.
+use Rattle.rules.specs.Records.{records, event_in}
+use Rattle.route.proofs.Numbers.{number_of, level_of}
+use Rattle.tally.proofs.Told.{told-lost, counted-number, counted-place, counted}
+use Rattle.tally.proofs.step.Goals as goal
+
+pub count-requires-clause-number_bound : goal.count-requires-clause-number_bound
+count-requires-clause-number_bound c =
+    let a = c.args in
+    let t = a.t.now in
+    let o = event_in a.es.now a.k in
+    let number = number_of records t o c.apply-told.ensures.told c.number_told.ensures in
+    let level = level_of records t o c.apply-told.ensures.told c.level_told.ensures in
+    let loses = told-lost t o a.places.now a.k c.requires.answer_size_in_bounds c.apply-told.ensures.answers c.answer_at.ensures c.lost_call.ensures c.is_lost-lost.ensures in
+    counted-number t o c.read-e.ensures number loses level
+
+pub count-requires-clause-loser_bound : goal.count-requires-clause-loser_bound
+count-requires-clause-loser_bound c =
+    let a = c.args in
+    let t = a.t.now in
+    let o = event_in a.es.now a.k in
+    let number = number_of records t o c.apply-told.ensures.told c.number_told.ensures in
+    let level = level_of records t o c.apply-told.ensures.told c.level_told.ensures in
+    let loses = told-lost t o a.places.now a.k c.requires.answer_size_in_bounds c.apply-told.ensures.answers c.answer_at.ensures c.lost_call.ensures c.is_lost-lost.ensures in
+    counted-place t o c.read-e.ensures number loses level
+
+pub returns-clause-totals : goal.returns-clause-totals
+returns-clause-totals c =
+    let a = c.args in
+    let t = a.t.now in
+    let o = event_in a.es.now a.k in
+    let number = number_of records t o c.apply-told.ensures.told c.number_told.ensures in
+    let level = level_of records t o c.apply-told.ensures.told c.level_told.ensures in
+    let loses = told-lost t o a.places.now a.k c.requires.answer_size_in_bounds c.apply-told.ensures.answers c.answer_at.ensures c.lost_call.ensures c.is_lost-lost.ensures in
+    counted t o c.read-e.ensures number loses level a.totals.now c.count.ensures
