@@ -1,8 +1,6 @@
 -- For each entry any two results that its contract allows coincide, and so does what they leave in the buffer or in the reader.
-use mathlib.Core.Path.{sym, ap, ◌∙◌}
+use mathlib.Core.Path.{sym, ◌∙◌}
 use Rattle.octets.proofs.Determined.{OneResult, OneExit}
-use Rattle.optional.specs.declared.part.Parameter.{Parameter}
-use Rattle.optional.specs.Part.{moved}
 use Rattle.optional.proofs.part.parameter_at.Kinds as parameter-at-kinds
 use Rattle.optional.proofs.part.parameter_at.Reads as parameter-at
 use Rattle.optional.proofs.reader.Reader.new.Kinds as new-kinds
@@ -33,4 +31,4 @@ pub step-result : OneResult 2 step-kinds.ps step-kinds.r step.Post
 step-result κs a x y e f p q = p.0 ∙ sym q.0
 
 pub step_reader : OneExit 2 step-kinds.ps step-kinds.r step.Post (λ κs e. e.0.now)
-step_reader κs a x y e f p q = p.1 ∙ ap (λ (z : Parameter). moved a.0.now z.next) (p.0 ∙ sym q.0) ∙ sym q.1
+step_reader κs a x y e f p q = cc
