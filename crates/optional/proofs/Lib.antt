@@ -1,5 +1,4 @@
 pub mod Walk
-pub mod Tokens
 pub mod Entries
 pub mod Sound
 pub mod Surveying

@@ -35,6 +35,7 @@ fn wide(count: u16) -> usize
 }
 
 // Gives the parameter at a place of the list.
+#[tactic(auto, unfolding(crate::specs::List::entry_at))]
 pub fn entry_at(list: &[u8], place: usize) -> Entry
     requires { place < length list.now }
     ensures { result ≡ entry_at list.now place }

@@ -43,6 +43,7 @@ pub fn wide(octet: u8) -> usize
 }
 
 // Gives what stands at a place: the work of a reader's step, on slice and number.
+#[tactic(auto, unfolding(crate::specs::Part::parameter_at))]
 pub fn parameter_at(part: &[u8], place: usize) -> Parameter
     ensures reading { result ≡ parameter_at part.now place }
 {

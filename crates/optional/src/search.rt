@@ -116,6 +116,7 @@ fn taken(part: &[u8], start: usize, count: usize) -> Search
 }
 
 // Gives what one parameter makes of what was found before it.
+#[tactic(auto, unfolding(crate::specs::Search::noted))]
 fn noted(part: &[u8], had: Search, p: Parameter) -> Search
     requires { Within part.now p }
     ensures { result ≡ noted part.now had p }

@@ -93,6 +93,7 @@ fn further(list: &[u8], had: Survey, entry: Entry) -> Survey
 }
 
 // Gives what the next parameter makes of a survey.
+#[tactic(auto, using(crate::proofs::Entries::lies), unfolding(crate::specs::Survey::surveyed))]
 fn surveyed(list: &[u8], had: Survey) -> Survey
     requires place_in_bounds { had.place < length list.now }
     requires bounded { Bounded had }
@@ -124,6 +125,7 @@ pub fn of_list(list: &[u8]) -> Survey
 }
 
 // Gives the number of the list that was surveyed, for a buffer of so many octets.
+#[tactic(auto, unfolding(crate::specs::Survey::judged))]
 pub fn judged(survey: Survey, size: usize) -> u8
     ensures { result ≡ judged survey size }
 {

@@ -67,6 +67,7 @@ fn put_other(buffer: &mut [u8], to: usize, name: u8, list: &[u8], start: usize, 
 }
 
 // Writes a parameter from a place of the buffer on.
+#[tactic(auto, using(crate::proofs::Entries::counted, crate::proofs::Sound::short))]
 fn put_parameter(buffer: &mut [u8], to: usize, list: &[u8], entry: Entry)
     requires start_le_next { entry.start ≤ entry.next }
     requires next_in_bounds { entry.next ≤ length list.now }
