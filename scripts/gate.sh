@@ -5,11 +5,9 @@
 cd "$repository"
 room=$(mktemp -d)
 trap 'rm -rf "$room"' EXIT
-from=$(sources)
 { "$rt" ci && touch "$room/proved"; } 2>&1 | tee "$room/log"
 [ -f "$room/proved" ]
 ! grep '^rt: ok;.* [1-9][0-9]* bad' "$room/log" >&2 || die "some wrong edits do not fit the text, and show nothing"
 grep -q '^rt: ok;' "$room/log" || die "rt ci ended with no line rt: ok"
-take_programs "$from"
 tests/run.sh
 tail -n 1 "$room/log"

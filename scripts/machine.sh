@@ -57,11 +57,9 @@ sources() {
 # made FOLDER: whether FOLDER has what was built from the sources as they stand.
 made() { [ -f "$1/sources" ] && [ "$(cat "$1/sources")" = "$(sources)" ]; }
 
-# rt_in CRATE COMMAND..: an rt command in the folder of a crate, which says something only where it fails.
+# rt_in CRATE COMMAND: proves and builds a crate by an rt command, for every x86-64 processor; says something only where that fails.
 rt_in() {
-    crate=$1
-    shift
-    log=$(cd "$repository/crates/$crate" && "$rt" "$@" 2>&1 </dev/null) || { printf '%s\n' "$log" >&2; exit 1; }
+    log=$(cd "$repository/crates/$1" && "$rt" "$2" --cpu x86-64 2>&1 </dev/null) || { printf '%s\n' "$log" >&2; exit 1; }
 }
 
 # library: proves and builds the archive that C links, where its sources have changed, and names it.
@@ -82,21 +80,15 @@ library() {
 build_programs() {
     bin=$repository/target/bin
     if ! made "$bin"; then
+        rm -rf "$bin"
+        mkdir -p "$bin"
         from=$(sources)
-        for program in decide panel figures; do rt_in "$program" run; done
-        take_programs "$from"
+        for program in decide panel figures; do
+            rt_in "$program" run
+            cp "$repository/crates/$program/out/$program" "$bin"
+        done
+        printf '%s\n' "$from" >"$bin/sources"
     fi
-}
-
-# take_programs SOURCES: has decide, panel and figures, as rt linked them from these sources, in the folder $bin.
-take_programs() {
-    bin=$repository/target/bin
-    rm -rf "$bin"
-    mkdir -p "$bin"
-    for program in decide panel figures; do
-        cp "$repository/crates/$program/out/$program" "$bin"
-    done
-    printf '%s\n' "$1" >"$bin/sources"
 }
 
 # run_linked PROGRAM ARGUMENTS..: a program that rt has linked, under the toolchain's loader and C library, and its emulator where it has one.
