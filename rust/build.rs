@@ -1,4 +1,4 @@
-// Links the archive of `rt staticlib naustvri`, from the folder NAUSTVRI_ARCHIVE or from the repository's target/.
+// Links the archive of `make library`, from the folder NAUSTVRI_ARCHIVE or from the repository's target/.
 
 use std::env;
 use std::path::PathBuf;
@@ -28,7 +28,7 @@ fn main() {
     println!("cargo:rerun-if-changed={}", archive.display());
     if !archive.is_file() {
         refuse(&format!(
-            "there is no {}: build it by `rt staticlib naustvri`, or name the folder that has it in NAUSTVRI_ARCHIVE",
+            "there is no {}: build it by `make library`, or name the folder that has it in NAUSTVRI_ARCHIVE",
             archive.display()
         ));
     }

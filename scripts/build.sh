@@ -3,7 +3,7 @@
 # older than a source.
 . "$(dirname "$0")/machine.sh"
 echo "build: proving and building the library and the programs, which takes some minutes" >&2
-build_programs naustvri
+build_programs
 archive=$(library)
-# What rt found unchanged is as new as its sources.
+# What was found unchanged is as new as its sources.
 touch "$archive" "$bin/decide" "$bin/panel" "$bin/figures"

@@ -2,8 +2,7 @@
 # demo.sh: 01's table of two free circuits and the ten events of its listing, of which 02's L7 added the second, in a folder of their own: the lamps
 # before and after the events, decide's line for each, and their figures.
 . "$(dirname "$0")/machine.sh"
-echo "demo: proves the three programs, crate by crate, and links them; some minutes where nothing is proved yet" >&2
-(cd "$repository" && "$rt" check decide panel figures 2>&1) | sed -un 's/^rt: \(.* proved ([0-9]* s)\)$/demo: \1/p' >&2
+echo "demo: proves the three programs and links them; some minutes where nothing is proved yet" >&2
 build_programs
 room=$(mktemp -d)
 trap 'rm -rf "$room"' EXIT

@@ -6,9 +6,9 @@ die() { printf '%s: %s\n' "${0##*/}" "$*" >&2; exit 2; }
 repository=$(cd "$(dirname "$0")/.." && pwd -P)
 machine=$(uname -m)
 rt=$(command -v rt) || die "rt, the command of the Rattle toolchain, is not on the PATH"
-toolchain=${RATTLE_HOME:-$(cd "$(dirname "$(readlink -f "$rt")")/.." && pwd -P)}/on/$machine/toolchain
+toolchain=$(cd "$(dirname "$(readlink -f "$rt")")/.." && pwd -P)/toolchain
 clang=$toolchain/bin/clang
-[ -x "$clang" ] || die "the Rattle toolchain has no clang for $machine"
+[ -x "$clang" ] || die "the Rattle toolchain has no clang"
 case $machine in
 x86_64) xcc=gcc xbin='' ;;
 aarch64) xcc=x86_64-linux-gnu-gcc xbin=x86_64-linux-gnu- ;;
@@ -49,16 +49,46 @@ clang_x86() {
     "$clang" --target=x86_64-linux-gnu -nostdinc $headers "$@"
 }
 
-# library: proves and builds the archive that C links, and names it.
-library() {
-    log=$(cd "$repository" && "$rt" staticlib naustvri 2>&1) || { printf '%s\n' "$log" >&2; exit 1; }
-    printf '%s\n' "$repository/target/staticlib/libnaustvri.a"
+# sources: a sum of the kit and of all that the library and the programs are made from.
+sources() {
+    (cd "$repository" && "$rt" version && find crates crates.txt -name out -prune -o -type f -print | LC_ALL=C sort | xargs sha256sum) | sha256sum
 }
 
-# build_programs CRATES..: proves and links decide, panel and figures, in the folder $bin; and proves the crates named, at the same time.
+# made FOLDER: whether FOLDER has what was built from the sources as they stand.
+made() { [ -f "$1/sources" ] && [ "$(cat "$1/sources")" = "$(sources)" ]; }
+
+# rt_in CRATE COMMAND: proves and builds a crate by an rt command, for every x86-64 processor; says something only where that fails.
+rt_in() {
+    log=$(cd "$repository/crates/$1" && "$rt" "$2" --cpu x86-64 2>&1 </dev/null) || { printf '%s\n' "$log" >&2; exit 1; }
+}
+
+# library: proves and builds the archive that C links, where its sources have changed, and names it.
+library() {
+    archives=$repository/target/staticlib
+    if ! made "$archives"; then
+        rm -rf "$archives"
+        mkdir -p "$archives"
+        from=$(sources)
+        rt_in naustvri_c lib
+        cp "$repository/crates/naustvri_c/out/libnaustvri_c.a" "$archives/libnaustvri.a"
+        printf '%s\n' "$from" >"$archives/sources"
+    fi
+    printf '%s\n' "$archives/libnaustvri.a"
+}
+
+# build_programs: proves and links decide, panel and figures, where their sources have changed, in the folder $bin.
 build_programs() {
-    log=$(cd "$repository" && "$rt" check decide panel figures "$@" 2>&1) || { printf '%s\n' "$log" >&2; exit 1; }
     bin=$repository/target/bin
+    if ! made "$bin"; then
+        rm -rf "$bin"
+        mkdir -p "$bin"
+        from=$(sources)
+        for program in decide panel figures; do
+            rt_in "$program" run
+            cp "$repository/crates/$program/out/$program" "$bin"
+        done
+        printf '%s\n' "$from" >"$bin/sources"
+    fi
 }
 
 # run_linked PROGRAM ARGUMENTS..: a program that rt has linked, under the toolchain's loader and C library, and its emulator where it has one.

@@ -9,7 +9,7 @@ unit=${1:-rounds} count=${2:-200} seed=${3:-1}
 [ "$unit" = rounds ] || echo "outside: builds the tests and the library, which is proved first where it has changed"
 need_compiler
 build_driver
-[ $# != 0 ] || build_programs naustvri
+[ $# != 0 ] || build_programs
 archive=$(library)
 if [ $# = 0 ]; then
     "$repository/tests/example.sh" "$archive"
