@@ -1,0 +1,8 @@
+-- By whether a lamp is lit.
+use Rattle.std.proofs.Common.{sym, ap}
+use Rattle.lines.specs.Panel.{first_lit}
+use Rattle.lines.proofs.Joined.{joined, said}
+use Rattle.lines.proofs.panel.first_lit.Goals as goal
+
+pub returns-in-At-clause-text : goal.returns-in-At-clause-text
+returns-in-At-clause-text c = said (ap first_lit (sym c.in-At.is)) (joined c.put-word.ensures c.number.ensures.text)
