@@ -1,4 +1,4 @@
-// C and Rust link these entries of the product, each of which but the version only calls another. The header is include/naustvri.h.
+// These are the entries of the product, each of which but the version only calls another. C and Rust link them under the same names, by naustvri_c.
 
 #![tactic(auto)]
 
@@ -21,83 +21,64 @@ const MINOR: u32 = 0;
 
 const PATCH: u32 = 0;
 
-#[unsafe(no_mangle)]
-pub extern "C" fn naustvri_version() -> u32
+pub fn naustvri_version() -> u32
     ensures number { result ≡ version }
 {
     10000 * MAJOR + 100 * MINOR + PATCH
 }
 
-#[unsafe(no_mangle)]
-pub extern "C" fn naustvri_read_precedence(octets: &[u8]) -> fields::precedence::Reading
+pub fn naustvri_read_precedence(octets: &[u8]) -> fields::precedence::Reading
     ensures reading { result ≡ precedence.read_precedence octets.now }
 {
     fields::precedence::read(octets)
 }
 
-#[unsafe(no_mangle)]
-pub extern "C" fn naustvri_write_precedence(
-    buffer: &mut [u8],
-    value: fields::precedence::Precedence,
-) -> u8
+pub fn naustvri_write_precedence(buffer: &mut [u8], value: fields::precedence::Precedence) -> u8
     ensures number { result ≡ precedence.write_number buffer.old value }
     ensures buffer { buffer.new ≡ precedence.write_buffer buffer.old value }
 {
     fields::precedence::write(buffer, value)
 }
 
-#[unsafe(no_mangle)]
-pub extern "C" fn naustvri_read_reference(octets: &[u8]) -> fields::reference::Reading
+pub fn naustvri_read_reference(octets: &[u8]) -> fields::reference::Reading
     ensures reading { result ≡ reference.read_reference octets.now }
 {
     fields::reference::read(octets)
 }
 
-#[unsafe(no_mangle)]
-pub extern "C" fn naustvri_write_reference(
-    buffer: &mut [u8],
-    value: fields::reference::Reference,
-) -> u8
+pub fn naustvri_write_reference(buffer: &mut [u8], value: fields::reference::Reference) -> u8
     ensures number { result ≡ reference.write_number buffer.old value }
     ensures buffer { buffer.new ≡ reference.write_buffer buffer.old value }
 {
     fields::reference::write(buffer, value)
 }
 
-#[unsafe(no_mangle)]
-pub extern "C" fn naustvri_next_parameter(part: &[u8], place: usize) -> optional::part::Parameter
+pub fn naustvri_next_parameter(part: &[u8], place: usize) -> optional::part::Parameter
     ensures reading { result ≡ parameter_at part.now place }
 {
     optional::part::parameter_at(part, place)
 }
 
-#[unsafe(no_mangle)]
-pub extern "C" fn naustvri_find_precedence(part: &[u8]) -> optional::search::Found
+pub fn naustvri_find_precedence(part: &[u8]) -> optional::search::Found
     ensures reading { result ≡ find part.now }
 {
     optional::search::find(part)
 }
 
-#[unsafe(no_mangle)]
-pub extern "C" fn naustvri_write_optional(
-    buffer: &mut [u8],
-    list: &[u8],
-) -> optional::write::Written
+pub fn naustvri_write_optional(buffer: &mut [u8], list: &[u8]) -> optional::write::Written
     ensures result { result ≡ optional.write buffer.old list.now }
     ensures buffer { buffer.new ≡ optional.write_buffer buffer.old list.now }
 {
     optional::write::write(buffer, list)
 }
 
-#[unsafe(no_mangle)]
-pub extern "C" fn naustvri_check(table: &[u8]) -> rules::verdict::Check
+pub fn naustvri_check(table: &[u8]) -> rules::verdict::Check
     ensures reading { result ≡ checked table.now }
 {
     validity::check(table)
 }
 
-#[unsafe(no_mangle)]
-pub extern "C" fn naustvri_event(table: &mut [u8], event: &[u8], answer: &mut [u8]) -> u8
+pub fn naustvri_event(table: &mut [u8], event: &[u8], answer: &mut [u8]) -> u8
     ensures number { result ≡ event_number table.old event.now answer.old }
     ensures table { table.new ≡ event_table table.old event.now answer.old }
     ensures answer { answer.new ≡ event_answer table.old event.now answer.old }
@@ -105,8 +86,7 @@ pub extern "C" fn naustvri_event(table: &mut [u8], event: &[u8], answer: &mut [u
     route::event(table, event, answer)
 }
 
-#[unsafe(no_mangle)]
-pub extern "C" fn naustvri_list(table: &mut [u8], events: &[u8], answers: &mut [u8]) -> u8
+pub fn naustvri_list(table: &mut [u8], events: &[u8], answers: &mut [u8]) -> u8
     ensures number { result ≡ list_number table.old events.now answers.old }
     ensures table { table.new ≡ list_table table.old events.now answers.old }
     ensures answers { answers.new ≡ list_answers table.old events.now answers.old }
@@ -114,8 +94,7 @@ pub extern "C" fn naustvri_list(table: &mut [u8], events: &[u8], answers: &mut [
     route::list(table, events, answers)
 }
 
-#[unsafe(no_mangle)]
-pub extern "C" fn naustvri_figures(
+pub fn naustvri_figures(
     table: &mut [u8],
     events: &[u8],
     answers: &mut [u8],
@@ -132,8 +111,7 @@ pub extern "C" fn naustvri_figures(
     tally::list(table, events, answers, figures)
 }
 
-#[unsafe(no_mangle)]
-pub extern "C" fn naustvri_lamps(table: &[u8]) -> lamps::Lamps
+pub fn naustvri_lamps(table: &[u8]) -> lamps::Lamps
     ensures reading { result ≡ lamp_map table.now }
 {
     lamps::map(table)
