@@ -1,56 +1,89 @@
 // This module reads files that the program's arguments name.
+ghost use Rattle.std.specs.Prelude.{◌≡◌, length};
 ghost use Rattle.io.specs.Counts.{IsPrefixLen};
 ghost use Rattle.streams.specs.Table.{Checked};
 
-use crate::{checked, file, no_table};
-use libc::STDERR_FILENO;
+use crate::{checked, fail, file, no_table};
+use std::env::{Env, FillError};
+use std::io;
+use std::io::{ErrorKind, Print};
+
+// A name has this room: one octet more than the longest path that a file may have.
+pub const ROOM: usize = 4096;
+
+// This is the system's number for a name that is too long.
+const TOO_LONG: i32 = 36;
+
+// Gives room for a name.
+pub fn space() -> [u8; ROOM]
+    ensures { 4096 ≡ length result }
+{
+    [0; ROOM]
+}
+
+// Says why no file has a name that is not UTF-8 text. One that fills its room may have been cut within a letter.
+pub fn refused(name: &[u8]) -> io::Error {
+    if name.len() < ROOM {
+        return io::Error::new(ErrorKind::InvalidFilename, "the name is not UTF-8");
+    }
+    io::Error::from_raw_os_error(TOO_LONG)
+}
 
 // Says on standard error what is amiss, and why.
-pub fn say(what: &[u8], why: &[u8]) {
-    io::write_all(STDERR_FILENO, what);
-    io::write_all(STDERR_FILENO, b": ");
-    io::write_all(STDERR_FILENO, why);
-    io::write_all(STDERR_FILENO, b"\n");
+pub fn say(rt: &HostRuntime, what: &[u8], why: &[u8]) {
+    let error = rt.stderr();
+    let _ = error.write_all(what);
+    let _ = error.write_all(b": ");
+    let _ = error.write_all(why);
+    let _ = error.write_all(b"\n");
+}
+
+// Counts the program's arguments, its own name as the first of them.
+pub fn count(rt: &HostRuntime) -> usize {
+    let mut space = [0u8; 1];
+    for i in 0..usize::MAX {
+        if let Err(FillError::NotPresent) = rt.arg(i, &mut space) {
+            return i;
+        }
+    }
+    usize::MAX
 }
 
 // Puts argument i into the buffer and gives its length. One that is too long is cut to the buffer's length: no file of that name is opened
 // where the buffer is longer than a path may be.
-pub fn name(i: usize, buffer: &mut [u8]) -> usize
+pub fn name(rt: &HostRuntime, i: usize, buffer: &mut [u8]) -> usize
     ensures { IsPrefixLen result buffer.new }
 {
-    let n = os::arg(i, buffer);
-    if n > 0 {
-        return n;
+    match rt.arg(i, buffer) {
+        Ok(n) => n,
+        Err(FillError::TooLong) => buffer.len(),
+        Err(FillError::NotPresent) => 0,
     }
-    if os::errno() == libc::ENAMETOOLONG {
-        return buffer.len();
-    }
-    0
 }
 
 // Reads the table from the file of this name and gives its length. Where there is none, or the check refuses it, the only line says so,
 // standard error names the file, and 0 is given.
-fn table_of(name: &[u8], buffer: &mut [u8]) -> usize
+fn table_of(rt: &HostRuntime, name: &[u8], buffer: &mut [u8]) -> usize
     ensures { Checked buffer.new result }
 {
-    let taken = file(name, buffer);
-    if taken.failed {
-        os::fail(name);
-        no_table();
+    let taken = file(rt, name, buffer);
+    if let Some(why) = taken.failed {
+        fail(rt, name, why);
+        no_table(rt);
         return 0;
     }
-    let n = checked(taken.octets, buffer);
+    let n = checked(rt, taken.octets, buffer);
     if n == 0 {
-        say(name, b"bad table");
+        say(rt, name, b"bad table");
     }
     n
 }
 
 // Reads the table from the file that argument i names, as `table_of` does.
-pub fn table(i: usize, buffer: &mut [u8]) -> usize
+pub fn table(rt: &HostRuntime, i: usize, buffer: &mut [u8]) -> usize
     ensures { Checked buffer.new result }
 {
-    let mut space = io::buffer();
-    let n = name(i, &mut space);
-    table_of(&space[..n], buffer)
+    let mut space = space();
+    let n = name(rt, i, &mut space);
+    table_of(rt, &space[..n], buffer)
 }
