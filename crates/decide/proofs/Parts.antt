@@ -4,10 +4,10 @@ use mathlib.Core.Path.{◌≡◌, sym, ap, ◌∙◌}
 use mathlib.Core.List.{List, [], ◌∷◌, ◌++◌}
 use native.Mathlib.Omega.{arith}
 use lib.ListN.{length, get_or, set, take, drop, length-take, length-drop}
-use lib.Seq.{length-take-le, set-append_left, ext_get_or, get_or-take, get_or-drop}
+use lib.Seq.{length-take-le, set-append_left}
 use borrow.Rule.Slice.PartMut.{mid_of, post_of, put_mid, put_same}
-use Rattle.octets.specs.Span.{span, put_to, put}
-use Rattle.octets.proofs.Spans.{length-span, span_at, length-put_to}
+use Rattle.octets.specs.Span.{put_to, put}
+use Rattle.octets.proofs.Spans.{length-put_to}
 
 set_after : (xs ys : List ℕ) (n i x : ℕ) → length xs ≡ n → set (xs ++ ys) (n + i) x ≡ xs ++ set ys i x
 set_after [] ys n i x e = ap (λ (k : ℕ). set ys k x) (omega arith)

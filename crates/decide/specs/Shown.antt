@@ -1,6 +1,6 @@
 -- This is 01, "The program and its whole output", and 02, L7: the ten events of the listing, 01's nine and the one that L7 adds, over its table of
 -- 64 zero octets give its whole output, letter for letter.
-use Rattle.std.specs.Prelude.{◌-◌, ◌≡◌, refl, ℕ}
+use Rattle.std.specs.Prelude.{◌≡◌, refl, ℕ}
 use mathlib.Core.List.{List, ◌++◌, flatten}
 use Rattle.rules.specs.Fields.{decimal, parameter_ok, point_code_ok}
 use Rattle.rules.specs.Circuit.{takeable, worth, rank}
