@@ -1,15 +1,12 @@
 -- The panel shows the free circuits, and names the one that a search takes.
-use Prim.Native.Nat.{ℕ, ◌+◌, ◌*◌}
+use Prim.Native.Nat.{◌+◌, ◌*◌}
 use mathlib.Core.Path.{◌≡◌, refl, sym, ap, ◌∙◌}
-use mathlib.Core.Bool.{Bool, cond, true≢false}
-use mathlib.Core.List.{List}
+use mathlib.Core.Bool.{Bool, true≢false}
 use native.Mathlib.Omega.{arith}
 use lib.ListN.{get_or}
-use lib.Dec.{eqb}
 use Rattle.octets.specs.Bit.{bit}
 use Rattle.rules.specs.declared.search.Found.{Found}
 use Rattle.rules.specs.declared.search.Found.TheVariants.{At, Nothing}
-use Rattle.rules.specs.Records.{check_number}
 use Rattle.lamps.specs.declared.Lamps.{Lamps}
 use Rattle.lamps.specs.Lamps.{lit_at, four_words, lowest_in, lamp_map}
 use Rattle.lamps.proofs.Shown.{lamp_in_lem}

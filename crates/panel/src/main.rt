@@ -8,7 +8,6 @@ ghost use Rattle.lines.specs.Panel.{most_letters};
 ghost use Rattle.panel.specs.Drawn.{panel};
 
 use events::EVENT_SIZE;
-use libc::STDIN_FILENO;
 use lines::panel::MOST_LETTERS;
 use streams::{FULL_LIST, TABLE_ROOM, Taken};
 
@@ -24,17 +23,17 @@ fn drawn(table: &[u8], text: &mut [u8]) -> usize
 }
 
 // Writes the panel of a table to standard output, and tells whether it was written.
-fn draw(table: &[u8]) -> bool {
+fn draw(rt: &HostRuntime, table: &[u8]) -> bool {
     let mut text = [0u8; MOST_LETTERS];
     let n = drawn(table, &mut text);
-    streams::write(&text[..n])
+    streams::write(rt, &text[..n])
 }
 
 // Applies one list from standard input to the table, looks at none of its answers, and gives what was read.
-fn turn(table: &mut [u8]) -> Taken {
+fn turn(rt: &HostRuntime, table: &mut [u8]) -> Taken {
     let mut events = streams::list_room();
     let mut answers = streams::list_room();
-    let taken = streams::fill(STDIN_FILENO, &mut events);
+    let taken = streams::fill(&mut rt.stdin(), &mut events);
     let n = taken.octets;
     let whole = n - n % EVENT_SIZE;
     route::list(table, &events[..whole], &mut answers[..whole]);
@@ -42,43 +41,43 @@ fn turn(table: &mut [u8]) -> Taken {
 }
 
 // Applies the lists after the first, each of them full but the last, and gives what was read for the last one.
-fn last(table: &mut [u8], first: Taken) -> Taken {
+fn last(rt: &HostRuntime, table: &mut [u8], first: Taken) -> Taken {
     let mut taken = first;
     let mut turns = u64::MAX;
     while turns > 0 {
         if taken.octets < FULL_LIST {
             return taken;
         }
-        taken = turn(table);
+        taken = turn(rt, table);
         turns -= 1;
     }
     taken
 }
 
 // Draws the panel before the events and, if there are any, after them, with an empty line between.
-fn twice(table: &mut [u8]) {
-    if !draw(table) {
+fn twice(rt: &HostRuntime, table: &mut [u8]) {
+    if !draw(rt, table) {
         return;
     }
-    let first = turn(table);
+    let first = turn(rt, table);
     if first.octets < EVENT_SIZE {
-        streams::ended(first);
+        streams::ended(rt, first);
         return;
     }
-    let taken = last(table, first);
-    if !streams::write(b"\n") {
+    let taken = last(rt, table, first);
+    if !streams::write(rt, b"\n") {
         return;
     }
-    if draw(table) {
-        streams::ended(taken);
+    if draw(rt, table) {
+        streams::ended(rt, taken);
     }
 }
 
-fn main() {
+fn main(rt: HostRuntime) {
     let mut space = [0u8; TABLE_ROOM];
-    let n = streams::table(&mut space);
+    let n = streams::table(&rt, &mut space);
     if n == 0 {
         return;
     }
-    twice(&mut space[..n]);
+    twice(&rt, &mut space[..n]);
 }
