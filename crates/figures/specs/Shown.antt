@@ -1,6 +1,6 @@
 -- This is 02, L1, "The day's figures": the ten events of the listing, 01's nine and the one that L7 adds, over its table of 64 zero octets give
 -- these figures, letter for letter.
-use Rattle.std.specs.Prelude.{ℕ, ◌-◌, ◌≡◌, refl}
+use Rattle.std.specs.Prelude.{ℕ, ◌≡◌, refl}
 use mathlib.Core.List.{List, [], ◌∷◌, ◌++◌, flatten}
 use Rattle.rules.specs.Fields.{decimal, parameter_ok, point_code_ok}
 use Rattle.rules.specs.Circuit.{takeable, worth, rank}

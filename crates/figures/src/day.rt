@@ -40,7 +40,7 @@ struct Day {
 }
 
 // Takes the next pair.
-fn next(day: Day, totals: &mut [u64], lefts: &mut [u8]) -> Day
+fn next(rt: &HostRuntime, day: Day, totals: &mut [u64], lefts: &mut [u8]) -> Day
     requires pairs_le_most_lists { day.pairs ≤ most_lists }
     requires start_bound { day.start ≤ most_circuits * day.pairs }
     requires end_bound { day.end ≤ most_circuits * day.pairs }
@@ -49,19 +49,19 @@ fn next(day: Day, totals: &mut [u64], lefts: &mut [u8]) -> Day
     ensures start { result.start ≤ most_circuits * result.pairs }
     ensures end { result.end ≤ most_circuits * result.pairs }
 {
-    let pair = files::taken(2 * day.pairs + 1, totals);
+    let pair = files::taken(rt, 2 * day.pairs + 1, totals);
     keep(lefts, day.pairs, pair);
     Day {
         pairs: day.pairs + 1,
         start: day.start + pair.start,
         end: day.end + pair.end,
-        failed: pair.failed,
+        failed: pair.failed.is_some(),
         refused: pair.refused,
     }
 }
 
 // Takes the pairs one after another until one ends it: each adds a list, and the 65,537th is refused at the latest.
-fn all(pairs: usize, totals: &mut [u64], lefts: &mut [u8]) -> Day
+fn all(rt: &HostRuntime, pairs: usize, totals: &mut [u64], lefts: &mut [u8]) -> Day
     requires { length totals.old ≡ figures }
 {
     let mut day = Day {
@@ -81,26 +81,26 @@ fn all(pairs: usize, totals: &mut [u64], lefts: &mut [u8]) -> Day
         if day.refused {
             return day;
         }
-        day = next(day, totals, lefts);
+        day = next(rt, day, totals, lefts);
     }
     day
 }
 
 // Writes the figures of so many pairs of files.
-pub fn figures(pairs: usize) {
+pub fn figures(rt: &HostRuntime, pairs: usize) {
     let mut totals = [0u64; FIGURES];
     let mut lefts = room();
-    let day = all(pairs, &mut totals, &mut lefts);
+    let day = all(rt, pairs, &mut totals, &mut lefts);
     if day.failed {
         return;
     }
-    if !print::totals(day.start, day.end, &totals) {
+    if !print::totals(rt, day.start, day.end, &totals) {
         return;
     }
-    if !print::shorts(&lefts) {
+    if !print::shorts(rt, &lefts) {
         return;
     }
     if day.refused {
-        print::too_many();
+        print::too_many(rt);
     }
 }

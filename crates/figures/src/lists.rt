@@ -7,6 +7,8 @@ ghost use Rattle.figures.specs.Output.{Sized, listed_table, listed_totals};
 
 use events::EVENT_SIZE;
 use rules::number::DONE;
+use std::io;
+use std::io::Read;
 use streams::FULL_LIST;
 use tally::totals::MOST_LISTS;
 
@@ -14,7 +16,7 @@ use tally::totals::MOST_LISTS;
 #[derive(Clone, Copy)]
 pub struct Ended {
     pub octets: usize,
-    pub failed: bool,
+    pub failed: Option<io::Error>,
     pub refused: bool,
 }
 
@@ -34,7 +36,7 @@ fn add(table: &mut [u8], events: &[u8], totals: &mut [u64]) -> bool
 }
 
 // Takes one list from the file. It is added where it has an event, or is the first.
-fn turn(file: i32, first: bool, table: &mut [u8], totals: &mut [u64]) -> Ended
+fn turn<R: Read>(file: &mut R, first: bool, table: &mut [u8], totals: &mut [u64]) -> Ended
     requires sized { Sized (length table.old) }
     requires totals_len { length totals.old ≡ figures }
 {
@@ -55,7 +57,7 @@ fn turn(file: i32, first: bool, table: &mut [u8], totals: &mut [u64]) -> Ended
 
 // Takes the lists of the file one after another, each of 4,096 events but the last, and says how they ended. At most 65,536 come after the
 // first, since totals take no more: one of them is refused at the latest.
-pub fn all(file: i32, table: &mut [u8], totals: &mut [u64]) -> Ended
+pub fn all<R: Read>(file: &mut R, table: &mut [u8], totals: &mut [u64]) -> Ended
     requires sized { Sized (length table.old) }
     requires totals_len { length totals.old ≡ figures }
 {

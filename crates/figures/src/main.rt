@@ -10,18 +10,19 @@ mod lists;
 mod pair;
 mod print;
 
-fn main() {
-    let count = os::arg_count();
+fn main(rt: HostRuntime) {
+    let count = streams::named::count(&rt);
     if count < 2 {
-        input::figures();
+        input::figures(&rt);
         return;
     }
     if count % 2 == 0 {
         streams::named::say(
+            &rt,
             b"figures",
             b"each table needs its events: figures TABLE EVENTS ..",
         );
         return;
     }
-    day::figures(count / 2);
+    day::figures(&rt, count / 2);
 }

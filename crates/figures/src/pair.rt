@@ -6,6 +6,8 @@ ghost use Rattle.figures.specs.Output.{Sized};
 
 use crate::lists;
 use events::EVENT_SIZE;
+use std::io;
+use std::io::Read;
 use tally::totals::LISTS;
 
 // This says what one table and its events came to: its holders before them and after them, if a list of them was added, and how they ended.
@@ -14,7 +16,7 @@ pub struct Pair {
     pub start: u64,
     pub end: u64,
     pub left: u8,
-    pub failed: bool,
+    pub failed: Option<io::Error>,
     pub refused: bool,
 }
 
@@ -27,7 +29,7 @@ fn counted(added: bool, holders: u64) -> u64
 }
 
 // Applies the events of the file to the table and adds them to the totals.
-pub fn taken(file: i32, table: &mut [u8], totals: &mut [u64]) -> Pair
+pub fn taken<R: Read>(file: &mut R, table: &mut [u8], totals: &mut [u64]) -> Pair
     requires sized { Sized (length table.old) }
     requires totals_len { length totals.old ≡ figures }
     ensures start { result.start ≤ most_circuits }
