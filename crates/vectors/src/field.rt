@@ -5,28 +5,29 @@ use crate::script::ROW;
 use crate::{script, text};
 use fields::precedence::Precedence;
 use fields::reference::Reference;
+use std::io::Stdout;
 
 // Writes the values of precedence: LFB, level and digits; service domain.
-pub fn values(value: Precedence) {
+pub fn values(out: Stdout, value: Precedence) {
     let digits = value.digits;
-    text::barred(&[value.lfb, value.level], 0, 2);
-    text::octets(&digits, 0, 4);
-    text::number(value.service as u64);
+    text::barred(out, &[value.lfb, value.level], 0, 2);
+    text::octets(out, &digits, 0, 4);
+    text::number(out, value.service as u64);
 }
 
 // Reads a parameter of the row's octets: number; its values.
-pub fn precedence(octets: &[u8]) {
+pub fn precedence(out: Stdout, octets: &[u8]) {
     let r = fields::precedence::read(octets);
-    text::number(r.number as u64);
-    values(r.value);
+    text::number(out, r.number as u64);
+    values(out, r.value);
 }
 
 // Reads a reference of the row's octets: number, identity, point code.
-pub fn reference(octets: &[u8]) {
+pub fn reference(out: Stdout, octets: &[u8]) {
     let r = fields::reference::read(octets);
-    text::number(r.number as u64);
-    text::number(r.value.identity as u64);
-    text::number(r.value.point as u64);
+    text::number(out, r.number as u64);
+    text::number(out, r.value.identity as u64);
+    text::number(out, r.value.point as u64);
 }
 
 // Writes LFB, level, four digits and service domain of a row, which stand after the size of the buffer.
@@ -65,11 +66,11 @@ fn field(letter: u8, row: &[u8], buffer: &mut [u8]) -> u8
 }
 
 // Writes the values of a row into a buffer of as many octets as its first one says.
-pub fn written(letter: u8, row: &[u8])
+pub fn written(out: Stdout, letter: u8, row: &[u8])
     requires { 11 ≤ length row.now }
 {
     let mut buffer = [0xeeu8; ROW];
     let n = script::octet(row, 0) as usize;
-    text::number(field(letter, row, script::room(&mut buffer, n)) as u64);
-    text::barred(&buffer, 0, n);
+    text::number(out, field(letter, row, script::room(&mut buffer, n)) as u64);
+    text::barred(out, &buffer, 0, n);
 }

@@ -10,8 +10,6 @@ mod scene;
 mod script;
 mod text;
 
-use libc::STDIN_FILENO;
-
 // The script has room for so many letters.
 const LETTERS: usize = 128 * 1024;
 
@@ -20,8 +18,8 @@ fn room() -> [u8; LETTERS] {
     [0; LETTERS]
 }
 
-fn main() {
+fn main(rt: HostRuntime) {
     let mut script = room();
-    let n = io::read_full(STDIN_FILENO, &mut script);
-    scene::play(script::first(&script, n));
+    let taken = streams::fill(&mut rt.stdin(), &mut script);
+    scene::play(rt.stdout(), script::first(&script, taken.octets));
 }

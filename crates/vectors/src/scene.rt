@@ -4,6 +4,7 @@ ghost use Rattle.std.specs.Prelude.{◌<◌, ◌≤◌, length};
 use crate::script::ROW;
 use crate::{asked, script, text};
 use events::{EVENT_SIZE, MOST_EVENTS};
+use std::io::Stdout;
 use table::{CIRCUIT_SIZE, MOST_CIRCUITS};
 
 // A table has room for one more circuit than a table may have.
@@ -28,7 +29,7 @@ const CIRCUIT_END: usize = CIRCUIT_SIZE + 1;
 const IDENTITY: usize = 7;
 
 // This is a scene as far as it has come. length: the octets of its table. room: the octets of an answer. played: the octets of the events so far.
-#[derive(Drop)]
+#[derive(Clone, Copy)]
 pub struct Scene {
     pub circuits: [u8; TABLE],
     pub table: [u8; TABLE],
@@ -88,25 +89,25 @@ fn tabled(mut scene: Scene, row: &[u8]) -> Scene {
 }
 
 // Writes the program's line for the answer to an event.
-fn line(event: usize, answer: &[u8])
+fn line(out: Stdout, event: usize, answer: &[u8])
     requires { 16 ≤ length answer.now }
 {
     let mut text = [0u8; lines::event::MOST_LETTERS];
     let n = lines::event::line(&mut text, event as u64, events::answer_at(answer, 0));
-    text::put(b" | ");
-    text::put(script::first(&text, n));
+    text::put(out, b" | ");
+    text::put(out, script::first(&text, n));
 }
 
 // Writes what came back and the octets of the answer, and the program's line for them unless nothing was written.
-fn answered(number: u8, event: usize, answer: &[u8], n: usize)
+fn answered(out: Stdout, number: u8, event: usize, answer: &[u8], n: usize)
     requires { 16 ≤ length answer.now }
 {
-    text::letter(b'=');
-    text::number(number as u64);
-    text::barred(answer, 0, n);
+    text::letter(out, b'=');
+    text::number(out, number as u64);
+    text::barred(out, answer, 0, n);
     match number {
-        rules::number::WRONG_LENGTH => text::letter(b'\n'),
-        _ => line(event, answer),
+        rules::number::WRONG_LENGTH => text::letter(out, b'\n'),
+        _ => line(out, event, answer),
     }
 }
 
@@ -127,7 +128,7 @@ fn kept(mut scene: Scene, event: &[u8], answer: &[u8]) -> Scene
 }
 
 // Plays one event by itself, and keeps it with its answer for the list.
-fn event(mut scene: Scene, row: &[u8], given: &[u8]) -> Scene
+fn event(out: Stdout, mut scene: Scene, row: &[u8], given: &[u8]) -> Scene
     requires { 16 ≤ length row.now }
 {
     let mut table = scene.table;
@@ -138,39 +139,45 @@ fn event(mut scene: Scene, row: &[u8], given: &[u8]) -> Scene
         script::room(&mut answer, scene.room),
     );
     scene.table = table;
-    answered(number, scene.played / EVENT_SIZE + 1, &answer, scene.room);
+    answered(
+        out,
+        number,
+        scene.played / EVENT_SIZE + 1,
+        &answer,
+        scene.room,
+    );
     kept(scene, row, &answer)
 }
 
 // Writes whether two buffers are the same, and what they are.
-fn compared(a: &[u8], b: &[u8], what: &[u8]) {
+fn compared(out: Stdout, a: &[u8], b: &[u8], what: &[u8]) {
     if check::same(a, b) {
-        text::put(b", the same");
+        text::put(out, b", the same");
     } else {
-        text::put(b", OTHER");
+        text::put(out, b", OTHER");
     }
-    text::put(what);
+    text::put(out, what);
 }
 
 // Writes the circuit from octet `at` on, if there is one.
-fn shown(t: &[u8], at: usize)
+fn shown(out: Stdout, t: &[u8], at: usize)
     requires { at < 128 }
 {
     let end = at + CIRCUIT_SIZE;
     if t.len() < end {
         return;
     }
-    text::letter(b'=');
-    text::barred(t, at, end);
-    text::letter(b'\n');
+    text::letter(out, b'=');
+    text::barred(out, t, at, end);
+    text::letter(out, b'\n');
 }
 
 // Writes the first four circuits of a table.
-fn circuits(t: &[u8]) {
-    shown(t, 0);
-    shown(t, CIRCUIT_SIZE);
-    shown(t, 2 * CIRCUIT_SIZE);
-    shown(t, 3 * CIRCUIT_SIZE);
+fn circuits(out: Stdout, t: &[u8]) {
+    shown(out, t, 0);
+    shown(out, t, CIRCUIT_SIZE);
+    shown(out, t, 2 * CIRCUIT_SIZE);
+    shown(out, t, 3 * CIRCUIT_SIZE);
 }
 
 // Adds to a number of octets one that a row has in three octets, the high one first.
@@ -189,26 +196,27 @@ fn list_room(x: u8) -> [u8; LIST] {
 }
 
 // Writes what a list gave back, and whether it wrote nothing.
-fn list_answered(number: u8, places: &[u8]) {
-    text::letter(b'=');
-    text::number(number as u64);
+fn list_answered(out: Stdout, number: u8, places: &[u8]) {
+    text::letter(out, b'=');
+    text::number(out, number as u64);
     if check::same(places, &list_room(UNWRITTEN)) {
-        text::put(b", nothing written");
+        text::put(out, b", nothing written");
     }
 }
 
 // Compares what a list left with what the events one by one left.
-fn list_compared(scene: Scene, places: &[u8], t: &[u8]) {
+fn list_compared(out: Stdout, scene: Scene, places: &[u8], t: &[u8]) {
     let table = scene.table;
     let answers = scene.answers;
     let n = scene.played;
     compared(
+        out,
         script::first(places, n),
         script::first(&answers, n),
         b" answers",
     );
-    compared(t, &table, b" table\n");
-    circuits(script::first(&table, scene.length));
+    compared(out, t, &table, b" table\n");
+    circuits(out, script::first(&table, scene.length));
 }
 
 // Gives the events of a scene, and zeros after them.
@@ -220,7 +228,7 @@ fn listed(scene: Scene) -> [u8; LIST] {
 }
 
 // Plays the events as a list over the circuits, and compares what it leaves with the events one by one.
-fn list(scene: Scene, row: &[u8]) {
+fn list(out: Stdout, scene: Scene, row: &[u8]) {
     let mut table = scene.circuits;
     let events = listed(scene);
     let mut places = list_room(UNWRITTEN);
@@ -229,12 +237,12 @@ fn list(scene: Scene, row: &[u8]) {
         script::first(&events, more(scene.played, row, 0, 1, 2)),
         script::room(&mut places, more(scene.played, row, 3, 4, 5)),
     );
-    list_answered(number, &places);
-    list_compared(scene, &places, &table);
+    list_answered(out, number, &places);
+    list_compared(out, scene, &places, &table);
 }
 
 // Plays a row by its letter.
-fn played(mut scene: Scene, letter: u8, row: &[u8], given: &[u8]) -> Scene
+fn played(out: Stdout, mut scene: Scene, letter: u8, row: &[u8], given: &[u8]) -> Scene
     requires { 34 ≤ length row.now }
 {
     match letter {
@@ -246,13 +254,13 @@ fn played(mut scene: Scene, letter: u8, row: &[u8], given: &[u8]) -> Scene
             scene.room = script::octet(row, 0) as usize;
             scene
         }
-        b'e' => event(scene, row, given),
+        b'e' => event(out, scene, row, given),
         b'l' => {
-            list(scene, row);
+            list(out, scene, row);
             scene
         }
         b'A'..=b'Z' => {
-            asked::asked(scene, letter, row, given);
+            asked::asked(out, scene, letter, row, given);
             scene
         }
         _ => scene,
@@ -260,12 +268,13 @@ fn played(mut scene: Scene, letter: u8, row: &[u8], given: &[u8]) -> Scene
 }
 
 // Writes a line as it stands, and plays it.
-fn turn(scene: Scene, line: &[u8]) -> Scene {
+fn turn(out: Stdout, scene: Scene, line: &[u8]) -> Scene {
     let mut octets = [0u8; ROW];
     let count = script::read(line, &mut octets);
-    text::put(line);
-    text::letter(b'\n');
+    text::put(out, line);
+    text::letter(out, b'\n');
     played(
+        out,
         scene,
         script::octet(line, 0),
         &octets,
@@ -274,12 +283,12 @@ fn turn(scene: Scene, line: &[u8]) -> Scene {
 }
 
 // Plays every line of the script.
-pub fn play(s: &[u8]) {
+pub fn play(out: Stdout, s: &[u8]) {
     let mut scene = begun();
     let mut at = 0;
     while at < s.len() {
-        let end = bytes::scan::find(s, at, s.len(), b'\n');
-        scene = turn(scene, &s[at..end]);
+        let end = script::line_end(s, at);
+        scene = turn(out, scene, &s[at..end]);
         at = end + 1;
     }
 }

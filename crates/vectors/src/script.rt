@@ -37,6 +37,18 @@ pub fn room(s: &mut [u8], n: usize) -> &mut [u8] {
     &mut s[0..m]
 }
 
+// Gives the place of the end of the line that begins at octet `at`, or the length where no end follows.
+pub fn line_end(s: &[u8], at: usize) -> usize
+    requires { at ≤ length s.now }
+    ensures start { at ≤ result }
+    ensures end { result ≤ length s.now }
+{
+    match s[at..].iter().position(|letter| *letter == b'\n') {
+        Some(n) => at + n,
+        None => s.len(),
+    }
+}
+
 // Gives the value of a digit: 0 to 9, and a to f, whose letters stand one after a multiple of 16.
 fn digit(c: u8) -> u8
     ensures { result < 16 }
