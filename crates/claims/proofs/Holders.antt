@@ -19,7 +19,7 @@ use Rattle.rules.specs.Valid.{pair_ok, valid}
 use Rattle.rules.specs.Records.{circuit_at, answer_octets, records, circuits, answer_number, lost_call}
 use Rattle.rules.proofs.Faults.{valid_facts}
 use Rattle.claims.specs.History.{Turn, asked}
-use Rattle.claims.specs.Accidents.{HolderGoes, released, higher_set_up, HolderStays, same_mark_lem, unmarked, NoHolderLost}
+use Rattle.claims.specs.Accidents.{HolderGoes, released, higher_set_up, HolderStays, under_its_mark, unmarked, NoHolderLost}
 use Rattle.claims.proofs.Plain.{above_so}
 use Rattle.rules.proofs.Grounds.{Grounds}
 use Rattle.rules.proofs.Taken.{holder_yields}
@@ -58,19 +58,19 @@ module _ (t : List ℕ) (v : valid records t ≡ true) (p : Turn) where
   by_no_service i r a = unmarked (by_own p _ a i (value-octets 1 i) _ _ r.kind r.own) (ap answer_number a) refl
 
   at_act : (c : ℕ) → (x c).holder.present ≡ true → (a : Act) (i : ℕ) → ((x i).holder.present ≡ true → After (λ y. y.holder) HolderStays HolderGoes i p (x i) (made e a (x i))) → After (λ y. y.holder) HolderStays HolderGoes c p (x c) (becomes e (Do a i) c (x c))
-  at_act = acted (λ y. y.holder) HolderStays HolderGoes (λ c p y. same_mark_lem refl) x p
+  at_act = acted (λ y. y.holder) HolderStays HolderGoes (λ c p y. under_its_mark refl) x p
 
   at_turn : AtTurn (λ y. y.holder) HolderStays HolderGoes t p
   unfolding answer_of
-  at_turn c there (Refuse r) h a = inl (same_mark_lem refl)
+  at_turn c there (Refuse r) h a = inl (under_its_mark refl)
   at_turn c there (Do Seize i) h a = at_act c there Seize i (λ q. inr (by_seizure i h a q))
-  at_turn c there (Do Reserve i) h a = at_act c there Reserve i (λ q. inl (same_mark_lem refl))
+  at_turn c there (Do Reserve i) h a = at_act c there Reserve i (λ q. inl (under_its_mark refl))
   at_turn c there (Do Release i) h a = at_act c there Release i (λ q. inr (by_release i h a))
-  at_turn c there (Do Cancel i) h a = at_act c there Cancel i (λ q. inl (same_mark_lem refl))
+  at_turn c there (Do Cancel i) h a = at_act c there Cancel i (λ q. inl (under_its_mark refl))
   at_turn c there (Do Unmark i) h a = at_act c there Unmark i (λ q. inl (by_no_service i h a))
-  at_turn c there (Do Answered i) h a = at_act c there Answered i (λ q. inl (same_mark_lem refl))
+  at_turn c there (Do Answered i) h a = at_act c there Answered i (λ q. inl (under_its_mark refl))
   at_turn c there Clock h a =
-      inl (by_test (HolderStays c p (x c)) (overdue e.clock (x c)) (made e Cancel (x c)) (x c) (λ z. same_mark_lem refl) (λ z. same_mark_lem refl))
+      inl (by_test (HolderStays c p (x c)) (overdue e.clock (x c)) (made e Cancel (x c)) (x c) (λ z. under_its_mark refl) (λ z. under_its_mark refl))
 
 pub no_holder_lost : NoHolderLost
 no_holder_lost = stays_or_goes (λ y. y.holder) HolderStays HolderGoes at_turn

@@ -43,8 +43,8 @@ module _ (lists : List EventList) (level : ℕ) (w : well_formed (event_at (sets
   unfolding event sets_up
   asks y shows held reserved =
       record {
-        well_formed_lem = w;
-        set_up_lem = refl;
+        is_well_formed = w;
+        is_set_up = refl;
         holds-nothing = λ c l h. held (subst (λ (z : Circuit). StandsIn (3 ∷ 0 ∷ 0 ∷ 1 ∷ 0 ∷ []) z.holder) (at c l) h);
         reserves_nothing = λ c l h. reserved (subst (λ (z : Circuit). StandsIn (3 ∷ 0 ∷ 0 ∷ 1 ∷ 0 ∷ []) z.reservation) (at c l) h);
       }

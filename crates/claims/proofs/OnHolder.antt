@@ -44,7 +44,7 @@ use Rattle.claims.proofs.Refused.{lengths_right, table_right, number_then, table
 
 -- the act of such a kind
 act_of : {k m : ℕ} → OfHolder k m → (a : Act) × Lasting a k m
-act_of kind.no_service_lem = (Unmark, no_service_lem)
+act_of kind.without_service = (Unmark, no_service_lem)
 act_of kind.answered = (Answered, answered-call)
 
 -- the lengths of such an event, over a table of right length

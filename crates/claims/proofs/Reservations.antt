@@ -19,7 +19,7 @@ use Rattle.rules.specs.Circuit.{nobody, is_of, limit, age, made, overdue as isOv
 use Rattle.rules.specs.Answer.{becomes, anothers, answer_of}
 use Rattle.rules.specs.Records.{circuit_at, loser, answer_octets, circuits, answer_number, answer_detail, lost_reservation}
 use Rattle.claims.specs.History.{Turn, asked, after_answer, after_turn}
-use Rattle.claims.specs.Accidents.{Old, Goes, own_set_up, cancelled, higher-call, overdue, mark_off_lem, Stays, NoReservationLost, OldOnesGo}
+use Rattle.claims.specs.Accidents.{Old, Goes, own_set_up, cancelled, higher-call, overdue, marked_off, Stays, NoReservationLost, OldOnesGo}
 use Rattle.rules.proofs.Grounds.{Open, Grounds}
 use Rattle.claims.proofs.Parties.{loser-named, by_own, by_higher, above-reservation, After, acted, AtTurn, stays_or_goes}
 
@@ -77,7 +77,7 @@ module _ (t : List ℕ) (p : Turn) where
     by_no_service : Grounds x n e (Do Unmark i) → p.answer ≡ answer_octets (answer_of x n e (Do Unmark i)) → Goes i p (x i)
     unfolding answer_of
     by_no_service r a =
-        mark_off_lem (by_own p _ a i (value-octets 1 i) _ _ r.kind r.own) (ap answer_number a)
+        marked_off (by_own p _ a i (value-octets 1 i) _ _ r.kind r.own) (ap answer_number a)
         (ap lost_reservation a ∙ loser-named (x i).reservation there (length-span t (32 * i + 12 + 7) 5))
 
   abbrev StaysAt : ℕ → Turn → Circuit → Circuit → Type 0

@@ -12,7 +12,7 @@ use Rattle.rules.specs.Numbers as number
 use Rattle.rules.specs.Records.{answer_number, answer_detail, empty_table}
 use Rattle.claims.specs.History.{Turn, history}
 use Rattle.claims.specs.Lists.{EventList, past}
-use Rattle.claims.specs.Accidents.{HolderGoes, released, higher_set_up, HolderStays, same_mark_lem, unmarked, OwnAmong}
+use Rattle.claims.specs.Accidents.{HolderGoes, released, higher_set_up, HolderStays, under_its_mark, unmarked, OwnAmong}
 use Rattle.claims.specs.Ringing.{SeizedBy, HeldSince, RingsExactly, RingsUntilAnswered, AnsweredSince, CountedOnlyAnswered, TakenOnlyAnswered}
 use Rattle.claims.proofs.Among.{one_on, among_one, among, among_more, among-before, not_empty, last_or_before}
 use Rattle.claims.proofs.Holders.{no_holder_lost}
@@ -28,7 +28,7 @@ module _ (c : ℕ) (p : Turn) (before : List Turn) (y z : Circuit) where
         turn = h.turn;
         since = h.since ++ p ∷ [];
         split = ap (λ (ps : List Turn). ps ++ p ∷ []) h.split ∙ append_assoc h.before (h.turn ∷ h.since) (p ∷ []);
-        set_up_lem = h.set_up_lem;
+        is_set_up = h.is_set_up;
         call = h.call ∙ sym same;
         seized = h.seized;
         last =
@@ -62,7 +62,7 @@ module _ (c : ℕ) (p : Turn) (before : List Turn) (y z : Circuit) where
         turn = p;
         since = [];
         split = refl;
-        set_up_lem = kind;
+        is_set_up = kind;
         call = call;
         seized = s;
         last = λ earlier q later e f. not_empty earlier q later e;
@@ -114,7 +114,7 @@ taken-only-answered n lists before p later split c l there not_released gone =
     y = history before c
 
     stays : HolderStays c p y (history (before ++ p ∷ []) c) → ⊥
-    stays (same_mark_lem s) = gone (ap (λ (q : Part). q.present) s ∙ there, ap (λ (q : Part). q.reference) s)
+    stays (under_its_mark s) = gone (ap (λ (q : Part). q.present) s ∙ there, ap (λ (q : Part). q.reference) s)
     stays (unmarked own eight s) = gone (ap (λ (q : Part). q.present) s ∙ there, ap (λ (q : Part). q.reference) s)
 
     goes : HolderGoes c p y → AnsweredSince c y before

@@ -55,12 +55,12 @@ module _ (x : ℕ → Circuit) (n : ℕ) (e : Event) (new : NewSetUp n x e) wher
 
   new-decision : decision x n e ≡ found (choice x n e.mark) (Do Seize) (Refuse (blocked e))
   unfolding decision set_up
-  new-decision = simp (new.set_up_lem, no_holder, no_reservation)
+  new-decision = simp (new.is_set_up, no_holder, no_reservation)
 
 new-decided : {S : Type 0} (L : Layout S) (s : S) (e : Event) → valid L s ≡ true → NewSetUp (L.count s) (L.view s) e → outcome_of L s e ≡ found (choice (L.view s) (L.count s) e.mark) (Do Seize) (Refuse (blocked e))
 unfolding outcome_of valid
 new-decided L s e v new =
-    ap₂ (λ (b : Bool) (w : Verdict). unless b Malformed (if_sound w (decision (L.view s) (L.count s) e))) new.well_formed_lem (valid_is (verdict L s) v)
+    ap₂ (λ (b : Bool) (w : Verdict). unless b Malformed (if_sound w (decision (L.view s) (L.count s) e))) new.is_well_formed (valid_is (verdict L s) v)
     ∙ new-decision (L.view s) (L.count s) e new
 
 -- ---- the octets of the two answers
@@ -169,8 +169,8 @@ module _ (t : List ℕ) (v : valid records t ≡ true) (x : ℕ → Circuit) (q 
       over : NewSetUp n X e
       over =
           record {
-            well_formed_lem = new.well_formed_lem;
-            set_up_lem = new.set_up_lem;
+            is_well_formed = new.is_well_formed;
+            is_set_up = new.is_set_up;
             holds-nothing = λ c l h. new.holds-nothing c l (subst (λ (y : Circuit). StandsIn e.reference y.holder) (q c l) h);
             reserves_nothing = λ c l h. new.reserves_nothing c l (subst (λ (y : Circuit). StandsIn e.reference y.reservation) (q c l) h);
           }

@@ -16,7 +16,7 @@ use Rattle.rules.proofs.Again.{no_service_lem, accepted_own}
 use Rattle.claims.specs.History.{Turn, asked, unmarked_call, named, after_answer, after_turn, empty, history}
 use Rattle.claims.specs.Lists.{EventList, table_after, past}
 use Rattle.claims.specs.Demand.{StandsIn}
-use Rattle.claims.specs.Accidents.{HolderGoes, released, higher_set_up, HolderStays, same_mark_lem, unmarked, OwnAmong, NeverTaken}
+use Rattle.claims.specs.Accidents.{HolderGoes, released, higher_set_up, HolderStays, under_its_mark, unmarked, OwnAmong, NeverTaken}
 use Rattle.claims.proofs.Plain.{stands_in_lem}
 use Rattle.claims.proofs.Octets.{answer-number, answer-detail}
 use Rattle.claims.proofs.Ran.{stood}
@@ -51,7 +51,7 @@ module _ (n : ℕ) (lists : List EventList) (c : ℕ) (l : c < n) (r : List ℕ)
       ⊎_elim (λ s. inl (still s)) (λ g. inr (gone g)) (no_holder_lost n lists before p later split c l (ap (λ (q : Part). q.present) h))
     where
       still : HolderStays c p (history before c) (history (before ++ p ∷ []) c) → (history (before ++ p ∷ []) c).holder ≡ unmarked_call r
-      still (same_mark_lem s) = s ∙ h
+      still (under_its_mark s) = s ∙ h
       still (unmarked own eight s) = s ∙ ap without_precedence h
 
       gone : HolderGoes c p (history before c) → OwnAmong 2 number.released c r (p ∷ [])

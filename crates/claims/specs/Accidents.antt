@@ -63,7 +63,7 @@ pub data Goes (c : ℕ) (p : Turn) (y : Circuit) : Type 0 where
   -- a reservation goes by a clock event, answered by 7, at 3,000 steps or more
   overdue : (asked p).kind ≡ 5 → answer_number p.answer ≡ number.clock_taken → Old (asked p).clock y → Goes c p y
   -- a reservation goes where the mark of the holder below it comes off, by that holder's kind 6, answered by 8 and the reservation's name
-  mark_off_lem :
+  marked_off :
       Own 6 c y.holder p → answer_number p.answer ≡ number.unmarked
       → lost_reservation p.answer ≡ somebody_lost y.reservation.reference → Goes c p y
 
@@ -93,7 +93,7 @@ pub data HolderGoes (c : ℕ) (p : Turn) (y : Circuit) : Type 0 where
 
 -- the same party holds circuit c, which was y before turn p and is z after it
 pub data HolderStays (c : ℕ) (p : Turn) (y z : Circuit) : Type 0 where
-  same_mark_lem : z.holder ≡ y.holder → HolderStays c p y z  -- a holder stays under its mark
+  under_its_mark : z.holder ≡ y.holder → HolderStays c p y z  -- a holder stays under its mark
   -- a holder's mark comes off by its own kind 6, answered by 8
   unmarked :
       Own 6 c y.holder p → answer_number p.answer ≡ number.unmarked

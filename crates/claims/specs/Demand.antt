@@ -30,8 +30,8 @@ StandsIn r p = (p.present ≡ true) × (p.reference ≡ r)
 
 -- "a well-formed set-up whose reference holds and reserves nothing", where x c is what the history shows of circuit c
 pub record NewSetUp (n : ℕ) (x : ℕ → Circuit) (e : Event) : Type 0 where
-  pub well_formed_lem : well_formed e ≡ true
-  pub set_up_lem : e.kind ≡ 1
+  pub is_well_formed : well_formed e ≡ true
+  pub is_set_up : e.kind ≡ 1
   pub holds-nothing : (c : ℕ) → c < n → StandsIn e.reference (x c).holder → ⊥
   pub reserves_nothing : (c : ℕ) → c < n → StandsIn e.reference (x c).reservation → ⊥
 

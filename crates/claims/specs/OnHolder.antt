@@ -7,7 +7,7 @@ use Rattle.route.specs.Entries.{event_number, event_table, event_answer}
 
 -- `OfHolder k m`: k is such a kind, and m "is the accepting number"
 pub data OfHolder : ℕ → ℕ → Type 0 where
-  no_service_lem : OfHolder 6 number.unmarked
+  without_service : OfHolder 6 number.unmarked
   answered : OfHolder 7 number.now_answered
 
 -- "with a reference and a zero parameter": f is an event of kind k, and r its reference

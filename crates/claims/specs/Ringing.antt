@@ -48,7 +48,7 @@ pub record HeldSince (c : ℕ) (y : Circuit) (turns : List Turn) : Type 0 where
   pub turn : Turn
   pub since : List Turn
   pub split : turns ≡ before ++ turn ∷ since
-  pub set_up_lem : (asked turn).kind ≡ 1
+  pub is_set_up : (asked turn).kind ≡ 1
   pub call : (asked turn).reference ≡ y.holder.reference
   pub seized : SeizedBy c turn
   pub last : (earlier : List Turn) (p : Turn) (later : List Turn) → since ≡ earlier ++ p ∷ later → SeizedBy c p → ⊥
