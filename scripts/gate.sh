@@ -1,6 +1,6 @@
 #!/bin/sh
 # gate.sh: rt ci proves the crates, tries the wrong edits and runs the tests and programs; each wrong edit has to be refused, and none may be a bad
-# one. Then the outside tests run on what was proved; the proofs' verdict is the last line.
+# one. Then the outside tests run on the same sources; the proofs' verdict is the last line.
 . "$(dirname "$0")/machine.sh"
 cd "$repository"
 room=$(mktemp -d)

@@ -54,8 +54,13 @@ sources() {
     (cd "$repository" && "$rt" version && find crates crates.txt -name out -prune -o -type f -print | LC_ALL=C sort | xargs sha256sum) | sha256sum
 }
 
-# made FOLDER: whether FOLDER has what was built from the sources as they stand.
-made() { [ -f "$1/sources" ] && [ "$(cat "$1/sources")" = "$(sources)" ]; }
+# made FOLDER FILE..: whether FOLDER has these files, built from the sources as they stand.
+made() (
+    cd "$1" 2>/dev/null || exit 1
+    shift
+    for file in sources "$@"; do [ -s "$file" ] || exit 1; done
+    [ "$(cat sources)" = "$(sources)" ]
+)
 
 # rt_in CRATE COMMAND: proves and builds a crate by an rt command, for every x86-64 processor; says something only where that fails.
 rt_in() {
@@ -65,7 +70,7 @@ rt_in() {
 # library: proves and builds the archive that C links, where its sources have changed, and names it.
 library() {
     archives=$repository/target/staticlib
-    if ! made "$archives"; then
+    if ! made "$archives" libnaustvri.a; then
         rm -rf "$archives"
         mkdir -p "$archives"
         from=$(sources)
@@ -79,7 +84,7 @@ library() {
 # build_programs: proves and links decide, panel and figures, where their sources have changed, in the folder $bin.
 build_programs() {
     bin=$repository/target/bin
-    if ! made "$bin"; then
+    if ! made "$bin" decide panel figures; then
         rm -rf "$bin"
         mkdir -p "$bin"
         from=$(sources)

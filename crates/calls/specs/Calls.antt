@@ -1,5 +1,5 @@
 -- This is demand 3 of the entries that C and Rust link. On this page a call is one that a host makes of naustvri_list or of
--- naustvri_event, and nothing is known of it but what the contract of that entry promises.
+-- naustvri_event, and nothing is known of it but what the contract of that entry promises, which the function that C links has word for word.
 use Rattle.std.specs.Prelude.{ℕ, ◌/◌, ◌<◌, ◌≤◌, ◌≡◌, cond, List, [], ◌∷◌, ◌++◌, length, eqb}
 use contract.Lifetimes.{Lfts}
 use denote.Triple.Clauses.{AtExit}

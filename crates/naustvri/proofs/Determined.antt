@@ -1,4 +1,5 @@
--- For each function that C links any two results that its contract allows coincide, and so does what they leave in the buffers.
+-- For each function of the library, which naustvri_c exports with the same contract, any two results that the contract allows coincide, and so does
+-- what they leave in the buffers.
 use mathlib.Core.Path.{sym, ◌∙◌}
 use Rattle.octets.proofs.Determined.{OneResult, OneExit}
 use Rattle.naustvri.proofs.naustvri_version.Kinds as version-kinds
