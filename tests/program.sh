@@ -207,7 +207,7 @@ for program in $programs; do
 done
 cases=$((cases + 1))
 
-# A read and a write that fail are named on standard error.
+# A read and a write that fail are named on standard error, and so is a pipe that nobody reads any more.
 zeros 64 >circuits.bin
 for program in $programs; do
     should "$program" </dev/null >wanted
@@ -216,6 +216,8 @@ for program in $programs; do
     [ "$(cat said)" = 'standard input: Is a directory' ] || die "$program, a read that fails: $(cat said)"
     run_linked "$bin/$program" <events >/dev/full 2>said
     [ "$(cat said)" = 'standard output: No space left on device' ] || die "$program, a write that fails: $(cat said)"
+    { sleep 1 && run_linked "$bin/$program" <events 2>said; } | :
+    [ "$(cat said)" = 'standard output: Broken pipe' ] || die "$program, a closed pipe: $(cat said)"
 done
 cases=$((cases + 1))
 
@@ -298,6 +300,7 @@ ended() {
 
 long=$(zeros 5000 | tr '\000' x)
 cut=$(printf %.4096s "$long")
+octets=$(printf 'caf\351')
 mkdir folder
 zeros 33 >20.table
 { printf '\002' && zeros 31; } >41.table
@@ -312,6 +315,9 @@ ended 'a table with an octet that should be zero' 'bad table 43 1\n' '43.table: 
 ended 'missing events' '' 'missing: No such file or directory' hour.table missing
 ended 'a folder for events' '' 'folder: Is a directory' hour.table folder
 ended 'a name too long for events' '' "$cut: File name too long" hour.table "$long"
+cp hour.table "$octets"
+ended 'a name for a table that is not UTF-8' 'no table\n' "$octets: the name is not UTF-8" "$octets" hour.events
+ended 'a name for events that is not UTF-8' '' "$octets: the name is not UTF-8" hour.table "$octets"
 ended 'neither table nor events' 'no table\n' 'missing: No such file or directory' missing folder
 ended 'a table without events' '' 'figures: each table needs its events: figures TABLE EVENTS ..' hour.table
 run_linked "$bin/figures" hour.table hour.events >/dev/full 2>said
