@@ -210,7 +210,8 @@ Settled = (t es places f : List ℕ) → Settles t es places f
 abbrev pub SameAsList : Type 0
 SameAsList =
     (t es places f : List ℕ) → figures_number t es places f ≡ number.done
-    → (list_number t es places ≡ number.done) × (figures_table t es places f ≡ list_table t es places) × (figures_answers t es places f ≡ list_answers t es places)
+    → (list_number t es places ≡ number.done) × (figures_table t es places f ≡ list_table t es places)
+    × (figures_answers t es places f ≡ list_answers t es places)
 
 -- "a refused list adds nothing": nor does it change the table or the answers
 abbrev pub AddsNothing : Type 0

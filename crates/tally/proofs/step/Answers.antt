@@ -4,25 +4,19 @@ use Rattle.route.proofs.Numbers.{number_of, level_of}
 use Rattle.tally.proofs.Told.{told-lost, counted-number, counted-place, counted}
 use Rattle.tally.proofs.step.Goals as goal
 
-pub count-requires-clause-number_bound : goal.count-requires-clause-number_bound
-count-requires-clause-number_bound c =
+pub count-requires : goal.count-requires
+count-requires c =
     let a = c.args in
     let t = a.t.now in
     let o = event_in a.es.now a.k in
     let number = number_of records t o c.apply-told.ensures.told c.number_told.ensures in
     let level = level_of records t o c.apply-told.ensures.told c.level_told.ensures in
     let loses = told-lost t o a.places.now a.k c.requires.answer_size_in_bounds c.apply-told.ensures.answers c.answer_at.ensures c.lost_call.ensures c.is_lost-lost.ensures in
-    counted-number t o c.read-e.ensures number loses level
-
-pub count-requires-clause-loser_bound : goal.count-requires-clause-loser_bound
-count-requires-clause-loser_bound c =
-    let a = c.args in
-    let t = a.t.now in
-    let o = event_in a.es.now a.k in
-    let number = number_of records t o c.apply-told.ensures.told c.number_told.ensures in
-    let level = level_of records t o c.apply-told.ensures.told c.level_told.ensures in
-    let loses = told-lost t o a.places.now a.k c.requires.answer_size_in_bounds c.apply-told.ensures.answers c.answer_at.ensures c.lost_call.ensures c.is_lost-lost.ensures in
-    counted-place t o c.read-e.ensures number loses level
+    record {
+      has_room_for = c.requires.has_room_for;
+      number_bound = counted-number t o c.read-e.ensures number loses level;
+      loser_bound = counted-place t o c.read-e.ensures number loses level;
+    }
 
 pub returns-clause-totals : goal.returns-clause-totals
 returns-clause-totals c =

@@ -11,16 +11,10 @@ put-requires c =
     let fits : a.n < 10 ^ 20 = omega arith in
     omega (arith, ap length (d.ensures.digits ∙ fewest 19 d.result a.n fits d.ensures.len), decimal-length 20 a.n 19 fits)
 
-pub returns-clause-text : goal.returns-clause-text
-returns-clause-text c =
+pub returns : goal.returns
+returns c =
     let d = c.decimal-k in
     let a = c.args in
     let fits : a.n < 10 ^ 20 = omega arith in
-    said (d.ensures.digits ∙ fewest 19 d.result a.n fits d.ensures.len) c.put.ensures
-
-pub returns-clause-end : goal.returns-clause-end
-returns-clause-end c =
-    let d = c.decimal-k in
-    let a = c.args in
-    let fits : a.n < 10 ^ 20 = omega arith in
-    omega (arith, c.put.ensures.end, ap length (d.ensures.digits ∙ fewest 19 d.result a.n fits d.ensures.len), decimal-length 20 a.n 19 fits)
+    let same = d.ensures.digits ∙ fewest 19 d.result a.n fits d.ensures.len in
+    record { text = said same c.put.ensures; end = omega (arith, c.put.ensures.end, ap length same, decimal-length 20 a.n 19 fits) }

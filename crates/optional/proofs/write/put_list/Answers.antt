@@ -9,32 +9,14 @@ use Rattle.optional.proofs.write.put_list.Goals as goal
 pub loop-place-init : goal.loop-place-init
 loop-place-init c = let a = c.args in (length a.list.now, ([], begins a.buffer.now a.list.now c.requires))
 
-pub put_parameter-requires-clause-start_le_next : goal.put_parameter-requires-clause-start_le_next
-put_parameter-requires-clause-start_le_next c =
-    let a = c.args in
-    let i = c.loop-place.invariant in
-    (turn a.buffer.now a.list.now c.requires i.0 _ _ _ i.1.0 i.1.1 c.loop-place-test.true _ c.entry_at-entry.ensures).onward
-
-pub put_parameter-requires-clause-next_in_bounds : goal.put_parameter-requires-clause-next_in_bounds
-put_parameter-requires-clause-next_in_bounds c =
-    let a = c.args in
-    let i = c.loop-place.invariant in
-    (turn a.buffer.now a.list.now c.requires i.0 _ _ _ i.1.0 i.1.1 c.loop-place-test.true _ c.entry_at-entry.ensures).within
-
-pub put_parameter-requires-clause-value : goal.put_parameter-requires-clause-value
-put_parameter-requires-clause-value c =
-    let a = c.args in
-    let i = c.loop-place.invariant in
-    (turn a.buffer.now a.list.now c.requires i.0 _ _ _ i.1.0 i.1.1 c.loop-place-test.true _ c.entry_at-entry.ensures).sounds
-
-pub put_parameter-requires-clause-start_in_bounds : goal.put_parameter-requires-clause-start_in_bounds
-put_parameter-requires-clause-start_in_bounds c =
+pub put_parameter-requires : goal.put_parameter-requires
+put_parameter-requires c =
     let a = c.args in
     let i = c.loop-place.invariant in
     let t = turn a.buffer.now a.list.now c.requires i.0 _ _ _ i.1.0 i.1.1 c.loop-place-test.true _ c.entry_at-entry.ensures in
-    let z = ap length i.1.1.written ∙ length-put a.buffer.now 0 i.1.0 in
     let f = t.fits in
-    omega (arith, f, z)
+    let z = ap length i.1.1.written ∙ length-put a.buffer.now 0 i.1.0 in
+    record { start_le_next = t.onward; next_in_bounds = t.within; value = t.sounds; start_in_bounds = omega (arith, f, z) }
 
 pub overflow_sub-to : goal.overflow_sub-to
 overflow_sub-to c =

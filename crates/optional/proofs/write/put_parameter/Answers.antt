@@ -6,21 +6,13 @@ use Rattle.optional.proofs.Entries.{counted}
 use Rattle.optional.proofs.Sound.{has_six, octets-precedence}
 use Rattle.optional.proofs.write.put_parameter.Goals as goal
 
-pub put_precedence-requires-clause-start_in_bounds : goal.put_precedence-requires-clause-start_in_bounds
-put_precedence-requires-clause-start_in_bounds c =
+pub put_precedence-requires : goal.put_precedence-requires
+put_precedence-requires c =
     let a = c.args in
     let p = c.requires in
     let k = counted a.list.now a.entry p.start_le_next p.next_in_bounds in
     let n = has_six (item_of a.list.now a.entry) p.value c.if-entry-eq-PRECEDENCE.true in
-    omega (arith, k, n)
-
-pub put_precedence-requires-clause-to_in_bounds : goal.put_precedence-requires-clause-to_in_bounds
-put_precedence-requires-clause-to_in_bounds c =
-    let a = c.args in
-    let p = c.requires in
-    let k = counted a.list.now a.entry p.start_le_next p.next_in_bounds in
-    let n = has_six (item_of a.list.now a.entry) p.value c.if-entry-eq-PRECEDENCE.true in
-    omega (arith, k, n)
+    record { start_in_bounds = omega (arith, k, n); to_in_bounds = omega (arith, k, n) }
 
 pub returns-then-entry-eq-PRECEDENCE : goal.returns-then-entry-eq-PRECEDENCE
 returns-then-entry-eq-PRECEDENCE c =
