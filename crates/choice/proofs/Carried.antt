@@ -8,8 +8,8 @@ use lib.Dec.{ltb}
 use borrow.Author.Tests.{lt-ltb, le-ltb, ltb-true}
 use Rattle.rules.specs.declared.mark.Mark.{Mark}
 use Rattle.rules.specs.declared.circuit.Circuit.{Circuit}
-use Rattle.rules.specs.declared.search.Found.{Found}
-use Rattle.rules.specs.declared.search.Found.TheVariants.{At, Nothing}
+use Rattle.std.specs.Prelude.{Option}
+use Rattle.std.specs.Prelude.{Some, None}
 use Rattle.rules.specs.Search.{or_else, first_to, better, best_to, found}
 use Rattle.rules.specs.Circuit.{free, rank}
 use Rattle.rules.specs.Choice.{choice}
@@ -27,22 +27,22 @@ improved-above b rank i = go (ltb b.rank rank) refl
 
 module _ (k : ℕ → ℕ) where
   -- b carries f and the rank that k gives there
-  abbrev Carries : Found → Best → Type 0
+  abbrev Carries : Option ℕ → Best → Type 0
   Carries f b = (b.rank ≡ found f k 0) × (found_in b ≡ f)
 
   -- whether or not there was a best before, n is better by a greater rank
-  by_rank : (f : Found) (n : ℕ) → cond (ltb (found f k 0) (k n)) (At n) f ≡ better k f n
-  by_rank (At i) n = refl
-  by_rank Nothing n = refl
+  by_rank : (f : Option ℕ) (n : ℕ) → cond (ltb (found f k 0) (k n)) (Some n) f ≡ better k f n
+  by_rank (Some i) n = refl
+  by_rank None n = refl
 
-  carries_more : (f : Found) (b : Best) (n : ℕ) → Carries f b → Carries (better k f n) (improved b (k n) n)
+  carries_more : (f : Option ℕ) (b : Best) (n : ℕ) → Carries f b → Carries (better k f n) (improved b (k n) n)
   carries_more f b n h =
-      subst (λ (g : Found). Carries g (improved b (k n) n))
-      (ap (λ (r : ℕ). cond (ltb r (k n)) (At n) f) h.0 ∙ by_rank f n)
+      subst (λ (g : Option ℕ). Carries g (improved b (k n) n))
+      (ap (λ (r : ℕ). cond (ltb r (k n)) (Some n) f) h.0 ∙ by_rank f n)
       (go (ltb b.rank (k n)) refl)
     where
-      go : (t : Bool) → ltb b.rank (k n) ≡ t → Carries (cond t (At n) f) (cond t (record { rank = k n; at = n }) b)
-      go true e = (refl, ap (λ (t : Bool). cond t (At n) Nothing) (lt-ltb 0 (k n) (omega (arith, ltb-true b.rank (k n) e))))
+      go : (t : Bool) → ltb b.rank (k n) ≡ t → Carries (cond t (Some n) f) (cond t (record { rank = k n; at = n }) b)
+      go true e = (refl, ap (λ (t : Bool). cond t (Some n) None) (lt-ltb 0 (k n) (omega (arith, ltb-true b.rank (k n) e))))
       go false e = h
 
   carries : (n : ℕ) → Carries (best_to k n) (carried_to k n)
@@ -61,14 +61,14 @@ abbrev pub ranks : (ℕ → Circuit) → Mark → ℕ → ℕ  -- the rank of ea
 ranks x by j = rank by (x j)
 
 module _ (x : ℕ → Circuit) (by : Mark) (i : ℕ) (passed : Passed (frees x) i) {m n : ℕ} (counted : m ≡ n) where
-  first_free : {f : Found} → f ≡ first_to (frees x) n → or_else f (best_to (ranks x by) n) ≡ choice x n by
+  first_free : {f : Option ℕ} → f ≡ first_to (frees x) n → or_else f (best_to (ranks x by) n) ≡ choice x n by
   unfolding choice
-  first_free e = ap (λ (f : Found). or_else f (best_to (ranks x by) n)) e
+  first_free e = ap (λ (f : Option ℕ). or_else f (best_to (ranks x by) n)) e
 
-  pub free-chosen : i < m → free (x i) ≡ true → At i ≡ choice x n by
+  pub free-chosen : i < m → free (x i) ≡ true → Some i ≡ choice x n by
   free-chosen l t = first_free (returned (frees x) i passed counted l t)
 
-  pub best_chosen : i ≤ m → m ≤ i → {b : Best} → b ≡ carried_to (ranks x by) i → {f : Found} → f ≡ found_in b → f ≡ choice x n by
+  pub best_chosen : i ≤ m → m ≤ i → {b : Best} → b ≡ carried_to (ranks x by) i → {f : Option ℕ} → f ≡ found_in b → f ≡ choice x n by
   best_chosen l h e s =
       let end : i ≡ n = omega arith in
       s ∙ ap found_in (e ∙ ap (carried_to (ranks x by)) end) ∙ (carries (ranks x by) n).1 ∙ first_free (ended (frees x) i passed counted h)

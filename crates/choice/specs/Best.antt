@@ -1,7 +1,7 @@
 -- The best circuit so far is carried along a route with its rank.
 use Rattle.std.specs.Prelude.{ℕ, zero, suc, cond, ltb}
-use Rattle.rules.specs.declared.search.Found.{Found}
-use Rattle.rules.specs.declared.search.Found.TheVariants.{At, Nothing}
+use Rattle.std.specs.Prelude.{Option}
+use Rattle.std.specs.Prelude.{Some, None}
 use Rattle.choice.specs.declared.Best.{Best}
 
 abbrev pub above : ℕ → ℕ → ℕ  -- rank k if it is above the greatest so far, else 0
@@ -10,8 +10,8 @@ above top k = cond (ltb top k) k 0
 abbrev pub improved : Best → ℕ → ℕ → Best  -- circuit i of a greater rank replaces the best so far
 improved b here i = cond (ltb b.rank here) (record { rank = here; at = i }) b
 
-abbrev pub found_in : Best → Found  -- rank 0 means that nothing was found
-found_in b = cond (ltb 0 b.rank) (At b.at) Nothing
+abbrev pub found_in : Best → Option ℕ  -- rank 0 means that nothing was found
+found_in b = cond (ltb 0 b.rank) (Some b.at) None
 
 abbrev pub carried_to : (ℕ → ℕ) → ℕ → Best  -- what is carried past the circuits below n, whose ranks k gives
 carried_to k zero = record { rank = 0; at = 0 }

@@ -12,7 +12,6 @@ ghost use Rattle.choice.specs.Best.{above, improved, found_in};
 
 use rules::mark::Mark;
 use rules::part::Reference;
-use rules::search::Found;
 use rules::standing::Standing;
 
 // A glance at a circuit gives this number where the circuit is free. No rank is 1.
@@ -74,19 +73,19 @@ impl Best {
         }
     }
 
-    fn found(self) -> Found
+    fn found(self) -> Option<usize>
         ensures { result ≡ found_in self }
     {
         if 0 < self.rank {
-            Found::At(self.at)
+            Some(self.at)
         } else {
-            Found::Nothing
+            None
         }
     }
 }
 
 // Finds the circuit that a call with this mark gets: the lowest free one, else the best takeable one.
-pub fn choose(t: &[u8], by: Mark) -> Found
+pub fn choose(t: &[u8], by: Mark) -> Option<usize>
     ensures { result ≡ choice (circuit_at t.now) (circuits t.now) by }
 {
     let n = table::count(t);
@@ -95,7 +94,7 @@ pub fn choose(t: &[u8], by: Mark) -> Found
     while i < n {
         let here = glance(t, by, i, best.rank);
         if here == FREE {
-            return Found::At(i);
+            return Some(i);
         }
         best = best.improved(here, i);
         i += 1;
@@ -104,7 +103,7 @@ pub fn choose(t: &[u8], by: Mark) -> Found
 }
 
 // Finds the circuit on which the call with this reference stands: side 0 is the holders', and side 1 the reservations'.
-fn circuit_of(t: &[u8], reference: Reference, side: usize) -> Found
+fn circuit_of(t: &[u8], reference: Reference, side: usize) -> Option<usize>
     requires { side < 2 }
     ensures { result ≡ first_to (λ i. is_of reference (part_numbered (circuit_at t.now) (2 * i + side))) (circuits t.now) }
 {
@@ -112,22 +111,22 @@ fn circuit_of(t: &[u8], reference: Reference, side: usize) -> Found
     let mut i = 0;
     while i < n {
         if table::stands_in(t, i, side, reference) {
-            return Found::At(i);
+            return Some(i);
         }
         i += 1;
     }
-    Found::Nothing
+    None
 }
 
 // Finds the circuit that the call with this reference holds.
-pub fn held_by(t: &[u8], reference: Reference) -> Found
+pub fn held_by(t: &[u8], reference: Reference) -> Option<usize>
     ensures { result ≡ held_by (circuit_at t.now) (circuits t.now) reference }
 {
     circuit_of(t, reference, 0)
 }
 
 // Finds the circuit that the call with this reference has reserved.
-pub fn reserved_by(t: &[u8], reference: Reference) -> Found
+pub fn reserved_by(t: &[u8], reference: Reference) -> Option<usize>
     ensures { result ≡ reserved_by (circuit_at t.now) (circuits t.now) reference }
 {
     circuit_of(t, reference, 1)

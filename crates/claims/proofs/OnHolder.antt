@@ -11,7 +11,7 @@ use Rattle.octets.proofs.Tests.{and_both}
 use Rattle.rules.specs.declared.circuit.Circuit.{Circuit}
 use Rattle.rules.specs.declared.event.Event.{Event}
 use Rattle.rules.specs.declared.answer.Answer.{Answer}
-use Rattle.rules.specs.declared.search.Found.{Found}
+use Rattle.std.specs.Prelude.{Option}
 use Rattle.rules.specs.declared.outcome.Act.{Act}
 use Rattle.rules.specs.declared.outcome.Act.TheVariants.{Unmark, Answered}
 use Rattle.rules.specs.declared.outcome.Refusal.TheVariants.{Malformed, NotThere}
@@ -83,12 +83,12 @@ module _ {a : Act} {k m : ℕ} (K : Lasting a k m) (t f place r : List ℕ) (tak
   still-sound = ap (valid records) (table_then t f place right) ∙ after-valid records lawful t f sound
 
   -- what is decided by the circuit that the call holds
-  by_held : {h : Found} → held_by x n r ≡ h → outcome_of records t e ≡ found h (Do a) (Refuse NotThere)
+  by_held : {h : Option ℕ} → held_by x n r ≡ h → outcome_of records t e ≡ found h (Do a) (Refuse NotThere)
   unfolding records on_holder
   by_held q =
       by_holder K records t e sound g.kind g.parameter
       ∙ ap (λ (s : List ℕ). found (held_by x n s) (Do a) (Refuse NotThere)) g.reference
-      ∙ ap (λ (h : Found). found h (Do a) (Refuse NotThere)) q
+      ∙ ap (λ (h : Option ℕ). found h (Do a) (Refuse NotThere)) q
 
   pub nobody-holds : ((c : ℕ) → c < n → StandsIn r (x c).holder → ⊥) → event_number t f place ≡ 27
   unfolding records answered answer_of held_by

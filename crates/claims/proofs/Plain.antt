@@ -13,7 +13,7 @@ use Rattle.octets.proofs.Sames.{same_true, same_refl}
 use Rattle.rules.specs.declared.mark.Mark.{Mark}
 use Rattle.rules.specs.declared.part.Part.{Part}
 use Rattle.rules.specs.declared.circuit.Circuit.{Circuit}
-use Rattle.rules.specs.declared.search.Found.TheVariants.{At, Nothing}
+use Rattle.std.specs.Prelude.{Some, None}
 use Rattle.rules.specs.Fields.{level_ok}
 use Rattle.rules.specs.Circuit.{is_of, standing, free, outranks, preemptable, takeable}
 use Rattle.rules.proofs.Sound.{if_present_lem, present_so}
@@ -98,13 +98,13 @@ rather y z i j ne (inr h) =
 
 -- ---- the choice, made over circuits x that show themselves as y
 module _ (x y : ℕ → Circuit) (n : ℕ) (q : (c : ℕ) → c < n → x c ≡ y c) (m : Mark) where
-  pub none-chosen : ChoiceIs x n m Nothing → NoneFree y n × NoneLower y n m
+  pub none-chosen : ChoiceIs x n m None → NoneFree y n × NoneLower y n m
   none-chosen h = (
     λ c l f. not_free (x c) (h c l).0 (subst Free (sym (q c l)) f),
     λ c l f. not_lower m (x c) (h c l).1 (subst (Lower m) (sym (q c l)) f),
   )
 
-  pub one-chosen : (i : ℕ) → ChoiceIs x n m (At i) → FirstFree y n i ⊎ Lowest y n m i
+  pub one-chosen : (i : ℕ) → ChoiceIs x n m (Some i) → FirstFree y n i ⊎ Lowest y n m i
   one-chosen i h = ⊎_elim (λ f. inl (free_one f)) (λ f. inr (lowest-one f)) h.1
     where
       here : i < n

@@ -12,8 +12,8 @@ use Rattle.octets.proofs.Tests.{and_assoc, by_eq, by_so}
 use Rattle.octets.proofs.Spans.{length-span, span_at, zeros_more, zeros_then}
 use Rattle.octets.proofs.Sames.{same_agree, same_differ}
 use Rattle.rules.specs.declared.part.Part.{Part}
-use Rattle.rules.specs.declared.search.Found.{Found}
-use Rattle.rules.specs.declared.search.Found.TheVariants.{At, Nothing}
+use Rattle.std.specs.Prelude.{Option}
+use Rattle.std.specs.Prelude.{Some, None}
 use Rattle.rules.specs.declared.verdict.Reason.TheVariants.{FlagOrLevel, DigitOrPointCode, NotZero, NotAbove}
 use Rattle.rules.specs.declared.verdict.Verdict.TheVariants.{Valid, Fault}
 use Rattle.rules.specs.Fields.{decimal, point_code_ok}
@@ -93,10 +93,10 @@ any_found : (f : ℕ → Bool) (n : ℕ) → any_below f n ≡ found (first_to f
 any_found f zero = refl
 any_found f (suc n) = ap (λ (b : Bool). b || f n) (any_found f n) ∙ go (first_to f n) (f n)
   where
-    go : (r : Found) (b : Bool) → found r (λ j. true) false || b ≡ found (or_else r (cond b (At n) Nothing)) (λ j. true) false
-    go (At i) b = refl
-    go Nothing true = refl
-    go Nothing false = refl
+    go : (r : Option ℕ) (b : Bool) → found r (λ j. true) false || b ≡ found (or_else r (cond b (Some n) None)) (λ j. true) false
+    go (Some i) b = refl
+    go None true = refl
+    go None false = refl
 
 -- two at a time
 any_pairs : (f : ℕ → Bool) (n : ℕ) → any_below f (2 * n) ≡ any_below (λ j. f (2 * j) || f (2 * j + 1)) n

@@ -14,8 +14,8 @@ use Rattle.octets.proofs.Spans.{length-span, span_all}
 use Rattle.rules.specs.declared.part.Part.{Part}
 use Rattle.rules.specs.declared.circuit.Circuit.{Circuit}
 use Rattle.rules.specs.declared.event.Event.{Event}
-use Rattle.rules.specs.declared.search.Found.{Found}
-use Rattle.rules.specs.declared.search.Found.TheVariants.{At, Nothing}
+use Rattle.std.specs.Prelude.{Option}
+use Rattle.std.specs.Prelude.{Some, None}
 use Rattle.rules.specs.declared.outcome.Act.TheVariants.{Seize}
 use Rattle.rules.specs.declared.outcome.Refusal.TheVariants.{Malformed, NoCircuitForRoutine, NoCircuit}
 use Rattle.rules.specs.declared.outcome.Outcome.TheVariants.{Refuse, Do}
@@ -43,12 +43,12 @@ use Rattle.claims.proofs.Plain.{not_in, none-chosen, one-chosen, chosen_not_none
 
 -- ---- in any layout: the choice decides
 module _ (x : ℕ → Circuit) (n : ℕ) (e : Event) (new : NewSetUp n x e) where
-  no_holder : held_by x n e.reference ≡ Nothing
+  no_holder : held_by x n e.reference ≡ None
   unfolding held_by
   no_holder =
       first_none (λ i. is_of e.reference (x i).holder) n (λ c l. not_in e.reference (x c).holder (new.holds-nothing c l))
 
-  no_reservation : reserved_by x n e.reference ≡ Nothing
+  no_reservation : reserved_by x n e.reference ≡ None
   unfolding reserved_by
   no_reservation =
       first_none (λ i. is_of e.reference (x i).reservation) n (λ c l. not_in e.reference (x c).reservation (new.reserves_nothing c l))
@@ -119,7 +119,7 @@ module _ (t : List ℕ) (v : valid records t ≡ true) (x : ℕ → Circuit) (q 
   heard_by : (k i : ℕ) → answer_number p.answer ≡ k → answer_detail p.answer ≡ i → (c : ℕ) → then_shown c ≡ after_answer e k i c (x c)
   heard_by k i a b c = ap₂ (λ (g h : ℕ). after_answer e g h c (x c)) a b
 
-  seized : (i : ℕ) → ChoiceIs (circuit_at t) n e.mark (At i) → p.answer ≡ seized_octets i (x i) → Answered n x then_shown e p.answer
+  seized : (i : ℕ) → ChoiceIs (circuit_at t) n e.mark (Some i) → p.answer ≡ seized_octets i (x i) → Answered n x then_shown e p.answer
   seized i h a =
       let one = one-chosen (circuit_at t) x n q e.mark i h in
       record {
@@ -146,7 +146,7 @@ module _ (t : List ℕ) (v : valid records t ≡ true) (x : ℕ → Circuit) (q 
       shown_then c =
           heard_by (cond lost 2 1) i (ap answer_number a) (ap answer_detail a ∙ value-octets 1 i) c ∙ after_seizure e i c (x c) lost
 
-  refused : ChoiceIs (circuit_at t) n e.mark Nothing → p.answer ≡ want_octets (is_routine e.mark.level) → Answered n x then_shown e p.answer
+  refused : ChoiceIs (circuit_at t) n e.mark None → p.answer ≡ want_octets (is_routine e.mark.level) → Answered n x then_shown e p.answer
   refused h a =
       let want : ForWant p.answer = subst ForWant (sym a) (want_number (is_routine e.mark.level)) in
       record {
@@ -178,9 +178,9 @@ module _ (t : List ℕ) (v : valid records t ≡ true) (x : ℕ → Circuit) (q 
       said : answered records t p.event ≡ answer_of X n e (found (choice X n e.mark) (Do Seize) (Refuse (blocked e)))
       said = ap (answer_of X n e) (new-decided records t e v over)
 
-      go : (r : Found) → ChoiceIs X n e.mark r → p.answer ≡ answer_octets (answer_of X n e (found r (Do Seize) (Refuse (blocked e)))) → Answered n x then_shown e p.answer
-      go Nothing h a = refused h (a ∙ want_octets_lem (is_routine e.mark.level))
-      go (At i) h a =
+      go : (r : Option ℕ) → ChoiceIs X n e.mark r → p.answer ≡ answer_octets (answer_of X n e (found r (Do Seize) (Refuse (blocked e)))) → Answered n x then_shown e p.answer
+      go None h a = refused h (a ∙ want_octets_lem (is_routine e.mark.level))
+      go (Some i) h a =
           let l = h.0 in
           seized i h
           (a

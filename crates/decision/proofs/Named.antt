@@ -5,8 +5,8 @@ use mathlib.Core.Bool.{Bool, true}
 use mathlib.Core.List.{List}
 use Rattle.rules.specs.declared.circuit.Circuit.{Circuit}
 use Rattle.rules.specs.declared.event.Event.{Event}
-use Rattle.rules.specs.declared.search.Found.{Found}
-use Rattle.rules.specs.declared.search.Found.TheVariants.{At, Nothing}
+use Rattle.std.specs.Prelude.{Option}
+use Rattle.std.specs.Prelude.{Some, None}
 use Rattle.rules.specs.declared.outcome.Outcome.{Outcome}
 use Rattle.rules.specs.declared.outcome.Outcome.TheVariants.{Refuse, Do, Clock}
 use Rattle.rules.specs.Search.{first_to}
@@ -30,9 +30,9 @@ reserved_below n x r = go (first_to f n) (first_is f n)
     f : ℕ → Bool
     f i = is_of r (x i).reservation
 
-    go : (q : Found) → FirstIs f n q → Below n q
-    go (At i) h = h.0
-    go Nothing h = tt
+    go : (q : Option ℕ) → FirstIs f n q → Below n q
+    go (Some i) h = h.0
+    go None h = tt
 
 pub ready : (t : List ℕ) → valid records t ≡ true → (e : Event) → well_formed e ≡ true → Ready t (decision (circuit_at t) (circuits t) e)
 unfolding records

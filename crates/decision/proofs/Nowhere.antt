@@ -9,8 +9,8 @@ use Rattle.octets.proofs.Tests.{by_test}
 use Rattle.rules.specs.declared.part.Part.{Part}
 use Rattle.rules.specs.declared.circuit.Circuit.{Circuit}
 use Rattle.rules.specs.declared.event.Event.{Event}
-use Rattle.rules.specs.declared.search.Found.{Found}
-use Rattle.rules.specs.declared.search.Found.TheVariants.{At, Nothing}
+use Rattle.std.specs.Prelude.{Option}
+use Rattle.std.specs.Prelude.{Some, None}
 use Rattle.rules.specs.declared.outcome.Act.TheVariants.{Seize}
 use Rattle.rules.specs.declared.outcome.Refusal.TheVariants.{AlreadyThere}
 use Rattle.rules.specs.declared.outcome.Outcome.TheVariants.{Refuse}
@@ -48,14 +48,14 @@ module _ (x : ℕ → Circuit) (n : ℕ) (r : List ℕ) where
 
 -- ---- of two searches, as for a holder and for a reservation
 module _ {A : Type 0} where
-  both_nothing : (f g : Found) (y z : ℕ → A) (w : A) → found f (λ i. false) (found g (λ i. false) true) ≡ true → w ≡ found f y (found g z w)
-  both_nothing (At i) g y z w h = absurd (true≢false (sym h))
-  both_nothing Nothing (At i) y z w h = absurd (true≢false (sym h))
-  both_nothing Nothing Nothing y z w h = refl
+  both_nothing : (f g : Option ℕ) (y z : ℕ → A) (w : A) → found f (λ i. false) (found g (λ i. false) true) ≡ true → w ≡ found f y (found g z w)
+  both_nothing (Some i) g y z w h = absurd (true≢false (sym h))
+  both_nothing None (Some i) y z w h = absurd (true≢false (sym h))
+  both_nothing None None y z w h = refl
 
-  first_found : (f g : Found) (y z : A) → found f (λ i. false) (found g (λ i. false) true) ≡ false → g ≡ Nothing → y ≡ found f (λ i. y) z
-  first_found (At i) g y z h e = refl
-  first_found Nothing g y z h e = absurd (true≢false (sym (ap (λ (q : Found). found q (λ i. false) true) e) ∙ h))
+  first_found : (f g : Option ℕ) (y z : A) → found f (λ i. false) (found g (λ i. false) true) ≡ false → g ≡ None → y ≡ found f (λ i. y) z
+  first_found (Some i) g y z h e = refl
+  first_found None g y z h e = absurd (true≢false (sym (ap (λ (q : Option ℕ). found q (λ i. false) true) e) ∙ h))
 
 -- ---- a set-up by a call that stands nowhere, and by one that stands somewhere and has reserved nothing
 module _ (x : ℕ → Circuit) (n : ℕ) (e : Event) where
@@ -63,6 +63,6 @@ module _ (x : ℕ → Circuit) (n : ℕ) (e : Event) where
   unfolding set_up
   choice-made = both_nothing (held_by x n e.reference) (reserved_by x n e.reference) _ _ _
 
-  pub holder-refused : stands_nowhere x n e.reference ≡ false → reserved_by x n e.reference ≡ Nothing → Refuse AlreadyThere ≡ set_up x n e
+  pub holder-refused : stands_nowhere x n e.reference ≡ false → reserved_by x n e.reference ≡ None → Refuse AlreadyThere ≡ set_up x n e
   unfolding set_up
   holder-refused = first_found (held_by x n e.reference) (reserved_by x n e.reference) _ _

@@ -15,7 +15,6 @@ use rules::event::Event;
 use rules::outcome::{Act, Outcome, Refusal};
 use rules::parameter;
 use rules::part::{Part, Reference};
-use rules::search::Found;
 use rules::verdict::Verdict;
 
 // Decides a set-up on its own reservation, which stands on circuit i.
@@ -51,13 +50,13 @@ fn stands_nowhere(t: &[u8], reference: Reference) -> bool
 #[tactic(auto, unfolding(rules::specs::Decision::set_up))]
 fn set_up_reserver(t: &[u8], e: Event, i: usize) -> Outcome
     requires i_bound { i < circuits t.now }
-    requires reference_value { reserved_by (circuit_at t.now) (circuits t.now) e.reference ≡ Found.At i }
+    requires reference_value { reserved_by (circuit_at t.now) (circuits t.now) e.reference ≡ Some i }
     ensures { result ≡ set_up (circuit_at t.now) (circuits t.now) e }
 {
     let reference = e.reference;
     match choice::held_by(t, reference) {
-        Found::At(_) => Outcome::Refuse(Refusal::AlreadyThere),
-        Found::Nothing => on_reservation(e, table::reservation_at(t, i), i),
+        Some(_) => Outcome::Refuse(Refusal::AlreadyThere),
+        None => on_reservation(e, table::reservation_at(t, i), i),
     }
 }
 
@@ -68,8 +67,8 @@ fn set_up_known(t: &[u8], e: Event) -> Outcome
 {
     let reference = e.reference;
     match choice::reserved_by(t, reference) {
-        Found::At(i) => set_up_reserver(t, e, i),
-        Found::Nothing => Outcome::Refuse(Refusal::AlreadyThere),
+        Some(i) => set_up_reserver(t, e, i),
+        None => Outcome::Refuse(Refusal::AlreadyThere),
     }
 }
 
@@ -82,8 +81,8 @@ fn set_up(t: &[u8], e: Event) -> Outcome
         return set_up_known(t, e);
     }
     match choice::choose(t, e.mark) {
-        Found::At(i) => Outcome::Do(Act::Seize, i),
-        Found::Nothing => Outcome::Refuse(blocked(e)),
+        Some(i) => Outcome::Do(Act::Seize, i),
+        None => Outcome::Refuse(blocked(e)),
     }
 }
 
@@ -103,8 +102,8 @@ fn look_ahead(t: &[u8], e: Event) -> Outcome
         return Outcome::Refuse(Refusal::AlreadyThere);
     }
     match choice::choose(t, e.mark) {
-        Found::At(i) => Outcome::Do(Act::Reserve, i),
-        Found::Nothing => Outcome::Refuse(Refusal::NoCircuitToReserve),
+        Some(i) => Outcome::Do(Act::Reserve, i),
+        None => Outcome::Refuse(Refusal::NoCircuitToReserve),
     }
 }
 
@@ -115,8 +114,8 @@ fn on_holder(t: &[u8], e: Event, a: Act) -> Outcome
 {
     let reference = e.reference;
     match choice::held_by(t, reference) {
-        Found::At(i) => Outcome::Do(a, i),
-        Found::Nothing => Outcome::Refuse(Refusal::NotThere),
+        Some(i) => Outcome::Do(a, i),
+        None => Outcome::Refuse(Refusal::NotThere),
     }
 }
 
@@ -127,8 +126,8 @@ fn cancel(t: &[u8], e: Event) -> Outcome
 {
     let reference = e.reference;
     match choice::reserved_by(t, reference) {
-        Found::At(i) => Outcome::Do(Act::Cancel, i),
-        Found::Nothing => Outcome::Refuse(Refusal::NotThere),
+        Some(i) => Outcome::Do(Act::Cancel, i),
+        None => Outcome::Refuse(Refusal::NotThere),
     }
 }
 

@@ -9,8 +9,8 @@ use native.Mathlib.Omega.{arith}
 use lib.ListN.{get_or}
 use Rattle.rules.specs.declared.mark.Mark.{Mark}
 use Rattle.rules.specs.declared.circuit.Circuit.{Circuit}
-use Rattle.rules.specs.declared.search.Found.{Found}
-use Rattle.rules.specs.declared.search.Found.TheVariants.{At, Nothing}
+use Rattle.std.specs.Prelude.{Option}
+use Rattle.std.specs.Prelude.{Some, None}
 use Rattle.rules.specs.Search.{count_to, or_else, first_to, best_to}
 use Rattle.octets.specs.Bit.{bit}
 use Rattle.rules.specs.Circuit.{free, rank}
@@ -65,15 +65,15 @@ module _ (x : ℕ → Circuit) (n : ℕ) (fits : n ≤ 256) where
   pub lowest-lit : lowest_in (four_words (lit x n)) ≡ first_to (λ i. free (x i)) n
   unfolding lowest_in
   lowest-lit =
-      over-free first_to first_cong (λ f j h. ap (λ (b : Bool). or_else (first_to f j) (cond b (At j) Nothing)) h ∙ or_nothing (first_to f j)) x n fits
+      over-free first_to first_cong (λ f j h. ap (λ (b : Bool). or_else (first_to f j) (cond b (Some j) None)) h ∙ or_nothing (first_to f j)) x n fits
 
   -- it is the circuit that a search takes, whatever the call's mark
-  pub lowest-taken : (m : Mark) (i : ℕ) → lowest_in (four_words (lit x n)) ≡ At i → choice x n m ≡ At i
+  pub lowest-taken : (m : Mark) (i : ℕ) → lowest_in (four_words (lit x n)) ≡ Some i → choice x n m ≡ Some i
   unfolding choice
-  lowest-taken m i e = ap (λ (r : Found). or_else r (best_to (λ j. rank m (x j)) n)) (sym lowest-lit ∙ e)
+  lowest-taken m i e = ap (λ (r : Option ℕ). or_else r (best_to (λ j. rank m (x j)) n)) (sym lowest-lit ∙ e)
 
   -- there is none exactly if no circuit is free
-  pub lowest-none : (lowest_in (four_words (lit x n)) ≡ Nothing) ↔ ((i : ℕ) → i < n → free (x i) ≡ false)
+  pub lowest-none : (lowest_in (four_words (lit x n)) ≡ None) ↔ ((i : ℕ) → i < n → free (x i) ≡ false)
   lowest-none = (
     λ e. subst (FirstIs (λ i. free (x i)) n) (sym lowest-lit ∙ e) (first_is (λ i. free (x i)) n),
     λ h. lowest-lit ∙ first_none (λ i. free (x i)) n h,
@@ -87,8 +87,8 @@ module _ (t : List ℕ) (fits : circuits t ≤ 256) where
   pub table-lowest : lowest_in (lit_map t).words ≡ first_to (λ i. free (circuit_at t i)) (circuits t)
   table-lowest = lowest-lit (circuit_at t) (circuits t) fits
 
-  pub table_taken : (m : Mark) (i : ℕ) → lowest_in (lit_map t).words ≡ At i → choice (circuit_at t) (circuits t) m ≡ At i
+  pub table_taken : (m : Mark) (i : ℕ) → lowest_in (lit_map t).words ≡ Some i → choice (circuit_at t) (circuits t) m ≡ Some i
   table_taken = lowest-taken (circuit_at t) (circuits t) fits
 
-  pub table_none : (lowest_in (lit_map t).words ≡ Nothing) ↔ ((i : ℕ) → i < circuits t → free (circuit_at t i) ≡ false)
+  pub table_none : (lowest_in (lit_map t).words ≡ None) ↔ ((i : ℕ) → i < circuits t → free (circuit_at t i) ≡ false)
   table_none = lowest-none (circuit_at t) (circuits t) fits

@@ -8,7 +8,7 @@ use lib.Pow.{pow_mono}
 use lib.Count.{count_trailing_zeros, under}
 use Rattle.octets.specs.Bit.{bit}
 use Rattle.octets.proofs.Bits.{bit_low, bit_up}
-use Rattle.rules.specs.declared.search.Found.TheVariants.{At}
+use Rattle.std.specs.Prelude.{Some}
 use Rattle.rules.proofs.Searches.{FirstIs}
 use Rattle.lamps.specs.Lamps.{word_from}
 
@@ -17,7 +17,7 @@ digit_lt true = omega arith
 digit_lt false = omega arith
 
 -- the lowest bit that is 1 stands above the trailing zeros
-trailing_step : (k w t d : ℕ) → w % 2 ≡ d → (d ≡ 0 → FirstIs (bit (w / 2)) k (At t)) → FirstIs (bit w) (suc k) (At (under d t))
+trailing_step : (k w t d : ℕ) → w % 2 ≡ d → (d ≡ 0 → FirstIs (bit (w / 2)) k (Some t)) → FirstIs (bit w) (suc k) (Some (under d t))
 trailing_step k w t zero e h = let up = h refl in (omega arith, bit_up w t ∙ up.1, below up.2)
   where
     below : ((j : ℕ) → j < t → bit (w / 2) j ≡ false) → (j : ℕ) → j < suc t → bit w j ≡ false
@@ -25,7 +25,7 @@ trailing_step k w t zero e h = let up = h refl in (omega arith, bit_up w t ∙ u
     below up (suc j) l = bit_up w j ∙ up j (omega arith)
 trailing_step k w t (suc d) e h = (omega arith, bit_low w true (omega arith), λ j l. absurd (not-suc-le-zero l))
 
-pub trailing_first : (k w : ℕ) → w < 2 ^ k → (w ≡ 0 → ⊥) → FirstIs (bit w) k (At (count_trailing_zeros k w))
+pub trailing_first : (k w : ℕ) → w < 2 ^ k → (w ≡ 0 → ⊥) → FirstIs (bit w) k (Some (count_trailing_zeros k w))
 unfolding count_trailing_zeros
 trailing_first zero w h z = absurd (z (omega arith))
 trailing_first (suc k) w h z =

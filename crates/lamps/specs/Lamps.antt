@@ -2,7 +2,7 @@
 use Rattle.std.specs.Prelude.{ℕ, zero, suc, ◌+◌, ◌*◌, ◌/◌, ◌%◌, Bool, cond, ◌&&◌, List, [], ◌∷◌, get_or, replicate, eqb, ltb}
 use Rattle.octets.specs.Bit.{bit}
 use Rattle.rules.specs.declared.circuit.Circuit.{Circuit}
-use Rattle.rules.specs.declared.search.Found.{Found}
+use Rattle.std.specs.Prelude.{Option}
 use Rattle.rules.specs.declared.verdict.Check.{Check}
 use Rattle.rules.specs.Search.{count_to, first_to}
 use Rattle.rules.specs.Circuit.{free}
@@ -35,7 +35,7 @@ lamp_in ws c = bit (get_or ws (c / 64) 0) (c % 64)
 unfoldable pub number_in : List ℕ → ℕ  -- the number lit, of the 256 lamps of four words
 number_in ws = count_to (lamp_in ws) 256
 
-unfoldable pub lowest_in : List ℕ → Found  -- the lowest lit lamp of four words, if there is one
+unfoldable pub lowest_in : List ℕ → Option ℕ  -- the lowest lit lamp of four words, if there is one
 lowest_in ws = first_to (lamp_in ws) 256
 
 -- the lamps of n circuits x, and how many of the circuits are free

@@ -8,7 +8,6 @@ ghost use Rattle.rules.specs.Records.{circuits, most_circuits};
 
 use rules::answer::NO_DETAIL;
 use rules::number;
-use rules::search::Found;
 use rules::verdict::Check;
 
 // This is what the panel gets: the check's number and detail, how many lamps are lit, and the lamps.
@@ -67,17 +66,17 @@ fn number_in(words: [u64; 4]) -> u16
 }
 
 // Finds the lowest lit lamp: in the first word that is not 0, it is the bit above the trailing zeros.
-pub fn lowest(words: [u64; 4]) -> Found
+pub fn lowest(words: [u64; 4]) -> Option<usize>
     ensures lamp { result ≡ lowest_in words }
 {
     let mut j = 0;
     while j < 4 {
         if words[j] != 0 {
-            return Found::At(64 * j + u64::trailing_zeros(words[j]) as usize);
+            return Some(64 * j + u64::trailing_zeros(words[j]) as usize);
         }
         j += 1;
     }
-    Found::Nothing
+    None
 }
 
 // Gives the lamp map of a table's circuits.

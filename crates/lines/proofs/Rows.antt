@@ -8,7 +8,7 @@ use native.Mathlib.Omega.{arith}
 use lib.ListN.{length, get_or, length-append, get_or-append}
 use lib.Seq.{get_or-append-add}
 use Rattle.octets.proofs.Spans.{grow}
-use Rattle.rules.specs.declared.search.Found.{Found}
+use Rattle.std.specs.Prelude.{Option}
 use Rattle.octets.specs.Bit.{bit}
 use Rattle.lines.specs.Text.{letters}
 use Rattle.lines.specs.Panel.{lamp, lamps_to, row, rows_to, last_line, drawing}
@@ -55,7 +55,7 @@ module _ (words : List ℕ) where
       (after (rows_to words n) (row (get_or words n 0)) (65 * n) i (rows-length n)) j l
 
   -- lamp i of row j
-  pub drawn_at : (lit : ℕ) (first : Found) (j i : ℕ) → j < 4 → i < 64 → get_or (drawing words lit first) (65 * j + i) 0 ≡ get_or (lamp (bit (get_or words j 0) i)) 0 0
+  pub drawn_at : (lit : ℕ) (first : Option ℕ) (j i : ℕ) → j < 4 → i < 64 → get_or (drawing words lit first) (65 * j + i) 0 ≡ get_or (lamp (bit (get_or words j 0) i)) 0 0
   unfolding drawing
   drawn_at lit first j i l h =
       get_or-append (rows_to words 4) (last_line lit first) 0 (65 * j + i) (omega (arith, rows-length 4)) ∙ rows_at i (omega arith) 4 j l

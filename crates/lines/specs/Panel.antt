@@ -1,7 +1,7 @@
 -- The lamp map on a terminal is four rows of 64 lamps, then the number lit and the first lamp lit.
 use Rattle.std.specs.Prelude.{ℕ, zero, suc, Bool, cond, List, [], ◌++◌, get_or}
-use Rattle.rules.specs.declared.search.Found.{Found}
-use Rattle.rules.specs.declared.search.Found.TheVariants.{At, Nothing}
+use Rattle.std.specs.Prelude.{Option}
+use Rattle.std.specs.Prelude.{Some, None}
 use Rattle.octets.specs.Bit.{bit}
 use Rattle.lines.specs.Text.{letters, decimal}
 
@@ -19,14 +19,14 @@ abbrev pub rows_to : List ℕ → ℕ → List ℕ  -- the rows of the first j w
 rows_to words zero = []
 rows_to words (suc j) = rows_to words j ++ row (get_or words j 0)
 
-abbrev pub first_lit : Found → List ℕ  -- the number of the first lamp lit, where one is
-first_lit (At i) = letters ", first " ++ decimal i
-first_lit Nothing = []
+abbrev pub first_lit : Option ℕ → List ℕ  -- the number of the first lamp lit, where one is
+first_lit (Some i) = letters ", first " ++ decimal i
+first_lit None = []
 
-unfoldable pub last_line : ℕ → Found → List ℕ  -- the line under the rows: the number lit, and the first lamp lit
+unfoldable pub last_line : ℕ → Option ℕ → List ℕ  -- the line under the rows: the number lit, and the first lamp lit
 last_line lit first = letters "lit " ++ decimal lit ++ first_lit first ++ letters "\n"
 
-unfoldable pub drawing : List ℕ → ℕ → Found → List ℕ  -- the lamp map drawn by its four words, the number lit and the first lamp lit
+unfoldable pub drawing : List ℕ → ℕ → Option ℕ → List ℕ  -- the lamp map drawn by its four words, the number lit and the first lamp lit
 drawing words lit first = rows_to words 4 ++ last_line lit first
 
 -- a drawing is never longer than this: four rows of 65 letters, two numbers of at most 20 digits, their words and the end of the line

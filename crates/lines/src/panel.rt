@@ -4,7 +4,6 @@ ghost use Rattle.lines.specs.Text.{Written};
 ghost use Rattle.lines.specs.Panel as rule;
 
 use crate::text;
-use rules::search::Found;
 
 // A drawing has at most 313 letters.
 pub const MOST_LETTERS: usize = 313;
@@ -47,22 +46,22 @@ fn rows(out: &mut [u8], words: [u64; 4]) -> usize
 }
 
 // Writes the number of the first lamp lit, where there is one.
-fn first_lit(out: &mut [u8], at: usize, first: Found) -> usize
+fn first_lit(out: &mut [u8], at: usize, first: Option<usize>) -> usize
     requires { at ≤ 800 }
     ensures text { Written out.old at (rule.first_lit first) out.new result }
     ensures within { result ≤ at + 28 }
 {
     match first {
-        Found::At(i) => {
+        Some(i) => {
             let word = text::put(out, at, b", first ");
             text::number(out, word, i as u64)
         }
-        Found::Nothing => at,
+        None => at,
     }
 }
 
 // Writes the line under the rows: the number lit and the first lamp lit.
-fn last_line(out: &mut [u8], at: usize, lit: u16, first: Found) -> usize
+fn last_line(out: &mut [u8], at: usize, lit: u16, first: Option<usize>) -> usize
     requires { at ≤ 700 }
     ensures text { Written out.old at (rule.last_line lit first) out.new result }
     ensures within { result ≤ at + 53 }
@@ -74,7 +73,7 @@ fn last_line(out: &mut [u8], at: usize, lit: u16, first: Found) -> usize
 }
 
 // Draws four rows of lamps and, under them, the number lit and the first lamp lit.
-pub fn draw(out: &mut [u8], words: [u64; 4], lit: u16, first: Found) -> usize
+pub fn draw(out: &mut [u8], words: [u64; 4], lit: u16, first: Option<usize>) -> usize
     ensures text { Written out.old 0 (rule.drawing words lit first) out.new result }
     ensures within { result ≤ rule.most_letters }
 {

@@ -5,8 +5,8 @@ use mathlib.Core.Bool.{Bool, true≢false}
 use native.Mathlib.Omega.{arith}
 use lib.ListN.{get_or}
 use Rattle.octets.specs.Bit.{bit}
-use Rattle.rules.specs.declared.search.Found.{Found}
-use Rattle.rules.specs.declared.search.Found.TheVariants.{At, Nothing}
+use Rattle.std.specs.Prelude.{Option}
+use Rattle.std.specs.Prelude.{Some, None}
 use Rattle.lamps.specs.declared.Lamps.{Lamps}
 use Rattle.lamps.specs.Lamps.{lit_at, four_words, lowest_in, lamp_map}
 use Rattle.lamps.proofs.Shown.{lamp_in_lem}
@@ -31,6 +31,6 @@ first_taken t m i h l e k = ap (drawing (lamp_map t).words (lamp_map t).lit) (fi
     number : (lamp_map t).number ≡ 0
     number = ap (λ (x : Lamps). x.number) (shown t h)
 
-    first : (f : Found) → lowest_in (lamp_map t).words ≡ f → f ≡ At i
-    first (At j) q = sym (lowest-taken t m j number q) ∙ k
-    first Nothing q = absurd (true≢false (sym e ∙ none-lit t number q i l))
+    first : (f : Option ℕ) → lowest_in (lamp_map t).words ≡ f → f ≡ Some i
+    first (Some j) q = sym (lowest-taken t m j number q) ∙ k
+    first None q = absurd (true≢false (sym e ∙ none-lit t number q i l))

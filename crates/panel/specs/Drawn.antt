@@ -1,7 +1,7 @@
 -- The panel of a table is its lamp map, drawn.
 use Rattle.std.specs.Prelude.{ℕ, ◌+◌, ◌*◌, ◌<◌, ◌≡◌, true, List, get_or}
 use Rattle.rules.specs.declared.mark.Mark.{Mark}
-use Rattle.rules.specs.declared.search.Found.TheVariants.{At}
+use Rattle.std.specs.Prelude.{Some}
 use Rattle.rules.specs.Circuit.{free}
 use Rattle.rules.specs.Choice.{choice}
 use Rattle.rules.specs.Records.{circuit_at, circuits, check_number}
@@ -21,5 +21,5 @@ FreeShown =
 -- after "first" stands the free circuit that a search takes, whatever the mark of the call that searches
 abbrev pub FirstTaken : Type 0
 FirstTaken =
-    (t : List ℕ) (m : Mark) (i : ℕ) → check_number t ≡ done → i < circuits t → free (circuit_at t i) ≡ true → choice (circuit_at t) (circuits t) m ≡ At i
-    → panel t ≡ drawing (lamp_map t).words (lamp_map t).lit (At i)
+    (t : List ℕ) (m : Mark) (i : ℕ) → check_number t ≡ done → i < circuits t → free (circuit_at t i) ≡ true → choice (circuit_at t) (circuits t) m ≡ Some i
+    → panel t ≡ drawing (lamp_map t).words (lamp_map t).lit (Some i)

@@ -17,8 +17,8 @@ use Rattle.octets.proofs.Sames.{same_true}
 use Rattle.octets.proofs.Spans.{grow}
 use Rattle.rules.specs.declared.part.Part.{Part}
 use Rattle.rules.specs.declared.circuit.Circuit.{Circuit}
-use Rattle.rules.specs.declared.search.Found.{Found}
-use Rattle.rules.specs.declared.search.Found.TheVariants.{At, Nothing}
+use Rattle.std.specs.Prelude.{Option}
+use Rattle.std.specs.Prelude.{Some, None}
 use Rattle.rules.specs.Circuit.{is_of}
 use Rattle.rules.specs.Search.{or_else, first_to, found}
 use Rattle.rules.specs.Valid.{part_numbered, clash, repeated}
@@ -105,10 +105,10 @@ module _ (x : ℕ → Circuit) (r : List ℕ) where
   stands_at n k l h = some-found (λ i. is_of r (part_numbered x i)) n k l h
 
   -- one part more: it stands there if it did before, and else if it stands in that part
-  one_more : (f : Found) (b : Bool) (n : ℕ) → found (or_else f (cond b (At n) Nothing)) (λ i. true) false ≡ found f (λ i. true) false || b
-  one_more (At i) b n = refl
-  one_more Nothing true n = refl
-  one_more Nothing false n = refl
+  one_more : (f : Option ℕ) (b : Bool) (n : ℕ) → found (or_else f (cond b (Some n) None)) (λ i. true) false ≡ found f (λ i. true) false || b
+  one_more (Some i) b n = refl
+  one_more None true n = refl
+  one_more None false n = refl
 
   pub stands_more : (n : ℕ) → stands_to x r (n + 1) ≡ stands_to x r n || is_of r (part_numbered x n)
   unfolding stands_to
@@ -128,7 +128,7 @@ module _ (x : ℕ → Circuit) (j : ℕ) where
   pub by_search : (part_numbered x j).present ≡ true → stands_to x (part_numbered x j).reference j ≡ repeated x j
   unfolding repeated stands_to
   by_search h =
-      ap (λ (f : Found). found f (λ k. true) false)
+      ap (λ (f : Option ℕ). found f (λ k. true) false)
       (first_cong (λ k. is_of (part_numbered x j).reference (part_numbered x k)) (λ k. clash (part_numbered x k) (part_numbered x j)) j
       (λ k l. ap (λ (b : Bool). b && same (part_numbered x k).reference (part_numbered x j).reference) (sym (and-true (part_numbered x k).present) ∙ ap (λ (b : Bool). (part_numbered x k).present && b) (sym h))))
 

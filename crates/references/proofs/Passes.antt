@@ -8,8 +8,8 @@ use lib.Dec.{ltb}
 use borrow.Author.Tests.{ltb-true, ltb-false, le-leb, lt-ltb}
 use Rattle.octets.proofs.Tests.{and_both, and_right, by_so}
 use Rattle.rules.specs.declared.circuit.Circuit.{Circuit}
-use Rattle.rules.specs.declared.search.Found.{Found}
-use Rattle.rules.specs.declared.search.Found.TheVariants.{At, Nothing}
+use Rattle.std.specs.Prelude.{Option}
+use Rattle.std.specs.Prelude.{Some, None}
 use Rattle.rules.specs.Search.{first_to, found}
 use Rattle.rules.specs.Valid.{part_numbered, repeated}
 use Rattle.rules.proofs.Searches.{FirstIs, first_is, first_of, nothing-found}
@@ -18,7 +18,7 @@ use Rattle.references.specs.Filter.{stems, stem, in_range, repeated_in, lowest_t
 -- ---- the lowest number below m of which f holds, or m
 module _ (f : ℕ → Bool) (m : ℕ) where
   pub lowest_at : (k : ℕ) → k < m → ((j : ℕ) → j < k → f j ≡ false) → f k ≡ true → k ≡ lowest_to f m
-  lowest_at k l h t = sym (ap (λ (r : Found). found r (λ i. i) m) (first_of f m k l h t))
+  lowest_at k l h t = sym (ap (λ (r : Option ℕ). found r (λ i. i) m) (first_of f m k l h t))
 
   pub lowest-none : ((j : ℕ) → j < m → f j ≡ false) → m ≡ lowest_to f m
   lowest-none h = sym (nothing-found f m (λ i. i) m h)
@@ -26,9 +26,9 @@ module _ (f : ℕ → Bool) (m : ℕ) where
   lowest_is : (lowest_to f m ≤ m) × ((j : ℕ) → j < lowest_to f m → f j ≡ false) × (lowest_to f m < m → f (lowest_to f m) ≡ true)
   lowest_is = go (first_to f m) (first_is f m)
     where
-      go : (r : Found) → FirstIs f m r → let n = found r (λ i. i) m in (n ≤ m) × ((j : ℕ) → j < n → f j ≡ false) × (n < m → f n ≡ true)
-      go (At i) h = (omega (arith, h.0), h.2, λ l. h.1)
-      go Nothing h = (omega arith, h, λ l. absurd (omega arith))
+      go : (r : Option ℕ) → FirstIs f m r → let n = found r (λ i. i) m in (n ≤ m) × ((j : ℕ) → j < n → f j ≡ false) × (n < m → f n ≡ true)
+      go (Some i) h = (omega (arith, h.0), h.2, λ l. h.1)
+      go None h = (omega arith, h, λ l. absurd (omega arith))
 
 -- ---- ranges of stems
 stem_below : (r : List ℕ) → stem r < stems

@@ -12,7 +12,6 @@ ghost use Rattle.references.specs.Filter.{stems, in_range, bits_in, already, sta
 ghost use Rattle.references.specs.Filter as filter;
 
 use rules::part::Reference;
-use rules::search::Found;
 
 // The filter has so many words of 64 bits: 256 octets of stack.
 const WORDS: usize = 32;
@@ -208,7 +207,7 @@ fn least(a: usize, b: usize) -> usize
 
 // Finds the first part whose reference stands in an earlier part. Equal references have one stem, so each pass finds those of its own range, and the
 // lowest of any pass is the first. What is kept from pass to pass costs stack: the ranges carry their own width, and half of the lowest is held against n.
-pub fn first_repeated(t: &[u8]) -> Found
+pub fn first_repeated(t: &[u8]) -> Option<usize>
     ensures { result ≡ first_to (repeated (circuit_at t.now)) (2 * circuits t.now) }
 {
     let n = table::count(t);
@@ -222,8 +221,8 @@ pub fn first_repeated(t: &[u8]) -> Found
         to = next;
     }
     if lowest / 2 < n {
-        Found::At(lowest)
+        Some(lowest)
     } else {
-        Found::Nothing
+        None
     }
 }

@@ -4,7 +4,7 @@ use Rattle.std.proofs.Common.{◌≡◌, ℕ, ◌<◌, Bool, true, false, cond, 
 use Rattle.octets.proofs.Tests.{by_test}
 use Rattle.rules.specs.declared.circuit.Circuit.{Circuit}
 use Rattle.rules.specs.declared.event.Event.{Event}
-use Rattle.rules.specs.declared.search.Found.{Found}
+use Rattle.std.specs.Prelude.{Option}
 use Rattle.rules.specs.declared.outcome.Act.{Act}
 use Rattle.rules.specs.declared.outcome.Act.TheVariants.{Seize, Reserve, Release, Cancel, Unmark, Answered}
 use Rattle.rules.specs.declared.outcome.Refusal.{Refusal}
@@ -167,7 +167,7 @@ module _ {a : Act} {kind number : ℕ} (K : Lasting a kind number) {S : Type 0} 
       decided-again : outcome_of L u fv ≡ Do a i
       unfolding on_holder
       decided-again =
-          let acts : Found → Outcome = λ h. found h (Do a) (Refuse NotThere) in
+          let acts : Option ℕ → Outcome = λ h. found h (Do a) (Refuse NotThere) in
           by_holder K L u fv (after-valid L W s e by_rules.0) again zero
           ∙ ap (λ (r : List ℕ). acts (held_by (L.view u) (L.count u) r)) call
           ∙ ap acts (same_held ev.reference)

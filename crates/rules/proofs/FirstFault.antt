@@ -3,8 +3,8 @@
 use Rattle.std.proofs.Common.{◌≡◌, ℕ, zero, suc, ◌*◌, ◌/◌, ◌<◌, Bool, true, false, cond, not, ◌&&◌, ◌⊎◌, sym, refl, ap, ◌∙◌, subst, inl, inr, true≢false, arith}
 use borrow.Author.Tests.{not-true, not-false}
 use Rattle.octets.proofs.Tests.{by_so}
-use Rattle.rules.specs.declared.search.Found.{Found}
-use Rattle.rules.specs.declared.search.Found.TheVariants.{At, Nothing}
+use Rattle.std.specs.Prelude.{Option}
+use Rattle.std.specs.Prelude.{Some, None}
 use Rattle.rules.specs.declared.verdict.Reason.{Reason}
 use Rattle.rules.specs.declared.verdict.Reason.TheVariants.{FlagOrLevel, DigitOrPointCode, NotZero, NotAbove, Repeated}
 use Rattle.rules.specs.declared.verdict.Verdict.{Verdict}
@@ -27,12 +27,12 @@ module _ {S : Type 0} (L : Layout S) (s : S) where
   abbrev pub bad : ℕ → Bool  -- record i has a fault by itself
   bad i = not (is_valid (v i))
 
-  step : (n : ℕ) (r : Found) → FirstIs bad n r → or_fault (found r v Valid) (v n) ≡ found (or_else r (cond (bad n) (At n) Nothing)) v Valid
-  step n (At i) g = fault_first (v i) (v n) (not-true _ g.1)
-  step n Nothing g =
+  step : (n : ℕ) (r : Option ℕ) → FirstIs bad n r → or_fault (found r v Valid) (v n) ≡ found (or_else r (cond (bad n) (Some n) None)) v Valid
+  step n (Some i) g = fault_first (v i) (v n) (not-true _ g.1)
+  step n None g =
       by_so (bad n)
-      (λ e. sym (ap (λ (b : Bool). found (cond b (At n) Nothing) v Valid) e))
-      (λ e. valid_is (v n) (not-false _ e) ∙ sym (ap (λ (b : Bool). found (cond b (At n) Nothing) v Valid) e))
+      (λ e. sym (ap (λ (b : Bool). found (cond b (Some n) None) v Valid) e))
+      (λ e. valid_is (v n) (not-false _ e) ∙ sym (ap (λ (b : Bool). found (cond b (Some n) None) v Valid) e))
 
   pub first_fault : (n : ℕ) → records_to L s n ≡ found (first_to bad n) v Valid
   first_fault zero = refl
@@ -93,18 +93,18 @@ module _ {S : Type 0} (L : Layout S) (s : S) where
   in_part : SoundBelow n → VerdictIs (parts_to L s n)
   in_part sound = go (first_to (repeated (L.view s)) (2 * n)) (first_is (repeated (L.view s)) (2 * n))
     where
-      go : (r : Found) → FirstIs (repeated (L.view s)) (2 * n) r → VerdictIs (found r (λ k. Fault Repeated (k / 2)) Valid)
-      go (At k) h = (omega arith, inr (record { reason = refl; sound = sound; part = k; its = refl; repeats = h.1; lowest = h.2 }))
-      go Nothing h = tt
+      go : (r : Option ℕ) → FirstIs (repeated (L.view s)) (2 * n) r → VerdictIs (found r (λ k. Fault Repeated (k / 2)) Valid)
+      go (Some k) h = (omega arith, inr (record { reason = refl; sound = sound; part = k; its = refl; repeats = h.1; lowest = h.2 }))
+      go None h = tt
 
   pub verdict_is : VerdictIs (verdict L s)
   unfolding verdict
   verdict_is =
       subst (λ (v : Verdict). VerdictIs (or_fault v (parts_to L s n))) (sym (first_fault L s n)) (go (first_to (bad L s) n) (first_is (bad L s) n))
     where
-      go : (r : Found) → FirstIs (bad L s) n r → VerdictIs (or_fault (found r (record_verdict L s) Valid) (parts_to L s n))
-      go (At i) h = in_record i h.0 h.1 (λ j l. sound_at j (h.2 j l)) (parts_to L s n)
-      go Nothing h = in_part (λ j l. sound_at j (h j l))
+      go : (r : Option ℕ) → FirstIs (bad L s) n r → VerdictIs (or_fault (found r (record_verdict L s) Valid) (parts_to L s n))
+      go (Some i) h = in_record i h.0 h.1 (λ j l. sound_at j (h.2 j l)) (parts_to L s n)
+      go None h = in_part (λ j l. sound_at j (h j l))
 
   -- a fault names a record of the table
   pub fault-there : (r : Reason) (i : ℕ) → verdict L s ≡ Fault r i → i < L.count s

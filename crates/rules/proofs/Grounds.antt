@@ -3,8 +3,8 @@ use Rattle.std.proofs.Common.{◌≡◌, ℕ, ◌<◌, Bool, true, false, cond, 
 use Rattle.octets.proofs.Tests.{by_so, by_test}
 use Rattle.rules.specs.declared.circuit.Circuit.{Circuit}
 use Rattle.rules.specs.declared.event.Event.{Event}
-use Rattle.rules.specs.declared.search.Found.{Found}
-use Rattle.rules.specs.declared.search.Found.TheVariants.{At, Nothing}
+use Rattle.std.specs.Prelude.{Option}
+use Rattle.std.specs.Prelude.{Some, None}
 use Rattle.rules.specs.declared.outcome.Act.{Act}
 use Rattle.rules.specs.declared.outcome.Act.TheVariants.{Seize, Reserve, Release, Cancel, Unmark, Answered}
 use Rattle.rules.specs.declared.outcome.Refusal.{Refusal}
@@ -102,9 +102,9 @@ module _ (x : ℕ → Circuit) (n : ℕ) (e : Event) where
     by_choice : (y : ℕ → Outcome) (z : Outcome) → ((i : ℕ) → i < n → Open i → Gives (y i)) → Gives z → Gives (found (choice x n e.mark) y z)
     by_choice y z g h = go (choice x n e.mark) (choice_is x n e.mark)
       where
-        go : (r : Found) → ChoiceIs x n e.mark r → Gives (found r y z)
-        go (At i) k = g i k.0 (⊎_elim (λ f. inl f.0) (λ t. inr t.1) k.1)
-        go Nothing k = h
+        go : (r : Option ℕ) → ChoiceIs x n e.mark r → Gives (found r y z)
+        go (Some i) k = g i k.0 (⊎_elim (λ f. inl f.0) (λ t. inr t.1) k.1)
+        go None k = h
 
     by_set_up : e.kind ≡ 1 → marked e ≡ true → Gives (set_up x n e)
     unfolding set_up held_by reserved_by on_reservation

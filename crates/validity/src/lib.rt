@@ -16,7 +16,6 @@ use rules::answer::NO_DETAIL;
 use rules::circuit::Circuit;
 use rules::number;
 use rules::part::{Part, Reference};
-use rules::search::Found;
 use rules::standing::Standing;
 use rules::verdict::{Check, Reason, Verdict};
 
@@ -267,8 +266,8 @@ fn each_reference(t: &[u8]) -> u64
     ensures { result ≡ code_of (parts_to records t.now (circuits t.now)) }
 {
     match references::first_repeated(t) {
-        Found::At(k) => code(digit(Reason::Repeated), k / 2),
-        Found::Nothing => 0,
+        Some(k) => code(digit(Reason::Repeated), k / 2),
+        None => 0,
     }
 }
 

@@ -1,7 +1,6 @@
 // This module writes the cells of an answer to standard output, each after a space.
 use crate::script;
 use rules::answer::NO_DETAIL;
-use rules::search::Found;
 use std::io::{Print, Stdout};
 
 pub fn put(out: Stdout, text: &[u8]) {
@@ -46,10 +45,10 @@ pub fn digits(out: Stdout, n: u64, count: usize) {
 }
 
 // Writes the circuit that a search found, or a dash.
-pub fn found(out: Stdout, f: Found) {
+pub fn found(out: Stdout, f: Option<usize>) {
     match f {
-        Found::At(i) => number(out, i as u64),
-        Found::Nothing => put(out, b"  -"),
+        Some(i) => number(out, i as u64),
+        None => put(out, b"  -"),
     }
 }
 

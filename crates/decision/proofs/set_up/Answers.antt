@@ -6,14 +6,14 @@ use Rattle.decision.proofs.Findings.{at, none}
 use Rattle.decision.proofs.Nowhere.{choice-made}
 use Rattle.decision.proofs.set_up.Goals as goal
 
-pub returns-in-At : goal.returns-in-At
-returns-in-At c =
+pub returns-in-Some : goal.returns-in-Some
+returns-in-Some c =
     let a = c.args in
-    at _ _ c.in-At.is c.choose.ensures
+    at _ _ c.in-Some.is c.choose.ensures
     ∙ choice-made (circuit_at a.t.now) (circuits a.t.now) a.e (sym c.stands_nowhere.ensures ∙ c.if-not-stands_nowhere.false)
 
-pub returns-in-Nothing : goal.returns-in-Nothing
-returns-in-Nothing c =
+pub returns-in-None : goal.returns-in-None
+returns-in-None c =
     let a = c.args in
-    ap Refuse c.blocked.ensures ∙ none _ _ c.in-Nothing.is c.choose.ensures
+    ap Refuse c.blocked.ensures ∙ none _ _ c.in-None.is c.choose.ensures
     ∙ choice-made (circuit_at a.t.now) (circuits a.t.now) a.e (sym c.stands_nowhere.ensures ∙ c.if-not-stands_nowhere.false)

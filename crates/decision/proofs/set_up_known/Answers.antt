@@ -9,9 +9,9 @@ use Rattle.decision.proofs.set_up_known.Goals as goal
 pub set_up_reserver-requires-clause-i_bound : goal.set_up_reserver-requires-clause-i_bound
 set_up_reserver-requires-clause-i_bound c =
     let a = c.args in
-    found_below c.in-At.is c.reserved_by.ensures (reserved_below (circuits a.t.now) (circuit_at a.t.now) a.e.reference)
+    found_below c.in-Some.is c.reserved_by.ensures (reserved_below (circuits a.t.now) (circuit_at a.t.now) a.e.reference)
 
-pub returns-in-Nothing : goal.returns-in-Nothing
-returns-in-Nothing c =
+pub returns-in-None : goal.returns-in-None
+returns-in-None c =
     let a = c.args in
-    holder-refused (circuit_at a.t.now) (circuits a.t.now) a.e c.requires (sym c.reserved_by.ensures ∙ c.in-Nothing.is)
+    holder-refused (circuit_at a.t.now) (circuits a.t.now) a.e c.requires (sym c.reserved_by.ensures ∙ c.in-None.is)

@@ -9,5 +9,5 @@ pub code-requires : goal.code-requires
 code-requires c =
     let t = c.args.t.now in
     let is = first_is (repeated (circuit_at t)) (2 * circuits t) in
-    let there = (subst (FirstIs (repeated (circuit_at t)) (2 * circuits t)) (sym c.in-At.ensures) is).0 in
+    let there = (subst (FirstIs (repeated (circuit_at t)) (2 * circuits t)) (sym c.in-Some.ensures) is).0 in
     omega (arith, c.digit.ensures)

@@ -4,5 +4,5 @@ use Rattle.lines.specs.Panel.{first_lit}
 use Rattle.lines.proofs.Joined.{joined, said}
 use Rattle.lines.proofs.panel.first_lit.Goals as goal
 
-pub returns-in-At-clause-text : goal.returns-in-At-clause-text
-returns-in-At-clause-text c = said (ap first_lit (sym c.in-At.is)) (joined c.put-word.ensures c.number.ensures.text)
+pub returns-in-Some-clause-text : goal.returns-in-Some-clause-text
+returns-in-Some-clause-text c = said (ap first_lit (sym c.in-Some.is)) (joined c.put-word.ensures c.number.ensures.text)
