@@ -7,13 +7,14 @@ ghost use Rattle.rules.specs.Search.{count_to};
 ghost use Rattle.rules.specs.Circuit.{nobody, overdue};
 ghost use Rattle.rules.specs.Answer.{may_lose, no_loser, losers, anothers, answer_of};
 ghost use Rattle.rules.specs.Records.{circuits, circuit_at, most_circuits};
+ghost use Rattle.rules.specs.Outcome.{does};
 ghost use Rattle.rules.specs.Ready.{Ready};
 
 use rules::answer::Answer;
 use rules::circuit::Circuit;
 use rules::event::Event;
 use rules::number;
-use rules::outcome::{Act, Outcome};
+use rules::outcome::{Act, Deed, Outcome};
 use rules::part::{Part, Reference};
 
 // Makes an answer that names a reservation as lost, if somebody has it, and no holder.
@@ -40,10 +41,7 @@ fn no_loser(number: u8, detail: u16) -> Answer
 fn either(none: u8, some: u8, call: Part, reservation: Part) -> u8
     ensures { result ≡ cond (call.present || reservation.present) some none }
 {
-    if call.present {
-        return some;
-    }
-    if reservation.present { some } else { none }
+    if call.present || reservation.present { some } else { none }
 }
 
 // Makes an answer that names whoever was lost.
@@ -73,7 +71,7 @@ fn another(reference: Reference, p: Part) -> Part
 // Gives the answer to an act on circuit i, which was c.
 #[tactic(auto, unfolding(rules::specs::Answer::answer_of))]
 fn acted(e: Event, a: Act, i: u16, c: Circuit) -> Answer
-    ensures { result ≡ answer_of (λ _. c) 0 e (Outcome.Do a i) }
+    ensures { result ≡ answer_of (λ _. c) 0 e (does a i) }
 {
     let reference = e.reference;
     match a {
@@ -128,8 +126,8 @@ pub fn answered(t: &[u8], e: Event, o: Outcome) -> Answer
     ensures { result ≡ answer_of (circuit_at t.now) (circuits t.now) e o }
 {
     match o {
-        Outcome::Refuse(r) => no_loser(r.number(), r.detail()),
-        Outcome::Do(a, i) => acted(e, a, i as u16, table::circuit_at(t, i)),
-        Outcome::Clock => no_loser(number::CLOCK_TAKEN, removed(t, e.clock)),
+        Err(refusal) => no_loser(u8::from(refusal), refusal.detail()),
+        Ok(Deed::Do(a, i)) => acted(e, a, i as u16, table::circuit_at(t, i)),
+        Ok(Deed::Clock) => no_loser(number::CLOCK_TAKEN, removed(t, e.clock)),
     }
 }

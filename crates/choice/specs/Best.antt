@@ -1,7 +1,5 @@
 -- The best circuit so far is carried along a route with its rank.
-use Rattle.std.specs.Prelude.{ℕ, zero, suc, cond, ltb}
-use Rattle.std.specs.Prelude.{Option}
-use Rattle.std.specs.Prelude.{Some, None}
+use Rattle.std.specs.Prelude.{ℕ, zero, suc, cond, ltb, Option, Some, None}
 use Rattle.choice.specs.declared.Best.{Best}
 
 abbrev pub above : ℕ → ℕ → ℕ  -- rank k if it is above the greatest so far, else 0

@@ -13,7 +13,9 @@ use Rattle.rules.specs.declared.circuit.Circuit.{Circuit}
 use Rattle.rules.specs.declared.event.Event.{Event}
 use Rattle.rules.specs.declared.outcome.Act.TheVariants.{Seize}
 use Rattle.rules.specs.declared.outcome.Refusal.TheVariants.{MarkDiffers}
-use Rattle.rules.specs.declared.outcome.Outcome.TheVariants.{Refuse, Do}
+use Rattle.std.specs.Prelude.{Ok, Err}
+use Rattle.rules.specs.declared.outcome.Deed.TheVariants.{Do}
+use Rattle.rules.specs.Outcome.{does}
 use Rattle.rules.specs.Circuit.{outranks, same_mark, unreserved, preemptable, takeable}
 use Rattle.rules.specs.Numbers.{done}
 use Rattle.rules.specs.Decision.{on_reservation}
@@ -59,5 +61,5 @@ pub as_printed : AsPrinted
 unfolding on_reservation
 as_printed t c i l e there =
     let y = circuit_at t i in
-    second_idle decides (same_mark e.mark y.reservation.mark) (holder_lower e y) (Do Seize i) (Refuse MarkDiffers) (refuses 28)
+    second_idle decides (same_mark e.mark y.reservation.mark) (holder_lower e y) (does Seize i) (Err MarkDiffers) (refuses 28)
     (λ alike. if_present_lem y.holder _ (λ held. and_right (preemptable y) _ (own_above e.mark y (in_order_lem t c i l) there.0 alike held)))

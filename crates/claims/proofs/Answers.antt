@@ -10,8 +10,9 @@ use Rattle.octets.proofs.Tests.{by_test}
 use Rattle.rules.specs.declared.circuit.Circuit.{Circuit}
 use Rattle.rules.specs.declared.event.Event.{Event}
 use Rattle.rules.specs.declared.outcome.Act.TheVariants.{Seize, Reserve, Release, Cancel, Unmark, Answered}
-use Rattle.rules.specs.declared.outcome.Outcome.{Outcome}
-use Rattle.rules.specs.declared.outcome.Outcome.TheVariants.{Refuse, Do, Clock}
+use Rattle.rules.specs.Outcome.{Outcome, does}
+use Rattle.std.specs.Prelude.{Ok, Err}
+use Rattle.rules.specs.declared.outcome.Deed.TheVariants.{Do, Clock}
 use Rattle.rules.specs.Circuit.{overdue, made}
 use Rattle.rules.specs.Numbers.{refusal_number}
 use Rattle.rules.specs.Numbers as number
@@ -50,15 +51,15 @@ module _ (e : Event) (i c : ℕ) (y : Circuit) where
 -- of any outcome, over circuits x
 pub answer_tells : (x : ℕ → Circuit) (n : ℕ) (e : Event) (c : ℕ) (o : Outcome) → after_answer e (answer_of x n e o).number (answer_of x n e o).detail c (x c) ≡ becomes e o c (x c)
 unfolding answer_of after_answer named
-answer_tells x n e c (Refuse r) = after_refusal e (refusal_detail r) c (x c) (refusal_number r) (omega (arith, refusal_high r))
-answer_tells x n e c (Do Seize i) =
+answer_tells x n e c (Err r) = after_refusal e (refusal_detail r) c (x c) (refusal_number r) (omega (arith, refusal_high r))
+answer_tells x n e c (Ok (Do Seize i)) =
     after_seizure e i c (x c) ((x i).holder.present || (anothers e.reference (x i).reservation).present)
-answer_tells x n e c (Do Reserve i) = after_reserving e i c (x c) (x i).reservation.present
-answer_tells x n e c (Do Release i) = refl
-answer_tells x n e c (Do Cancel i) = refl
-answer_tells x n e c (Do Unmark i) = refl
-answer_tells x n e c (Do Answered i) = refl
-answer_tells x n e c Clock = refl
+answer_tells x n e c (Ok (Do Reserve i)) = after_reserving e i c (x c) (x i).reservation.present
+answer_tells x n e c (Ok (Do Release i)) = refl
+answer_tells x n e c (Ok (Do Cancel i)) = refl
+answer_tells x n e c (Ok (Do Unmark i)) = refl
+answer_tells x n e c (Ok (Do Answered i)) = refl
+answer_tells x n e c (Ok Clock) = refl
 
 -- in any lawful layout, from any valid table
 module _ {S : Type 0} (L : Layout S) (W : Lawful L) (s : S) (e : List ℕ) where

@@ -5,7 +5,7 @@ use mathlib.Core.Bool.{Bool, true, false, cond}
 use mathlib.Core.List.{List}
 use lib.ListN.{length}
 use Rattle.octets.proofs.Tests.{by_so}
-use Rattle.rules.specs.declared.verdict.Verdict.{Verdict}
+use Rattle.rules.specs.Verdict.{Verdict}
 use Rattle.rules.specs.Valid.{verdict}
 use Rattle.rules.specs.Run.{after, run}
 use Rattle.rules.specs.Records.{records, table_length, checked, empty_table}

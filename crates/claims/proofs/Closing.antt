@@ -16,8 +16,9 @@ use Rattle.rules.specs.declared.circuit.Circuit.{Circuit}
 use Rattle.rules.specs.declared.event.Event.{Event}
 use Rattle.rules.specs.declared.outcome.Act.{Act}
 use Rattle.rules.specs.declared.outcome.Act.TheVariants.{Seize, Reserve, Release, Cancel, Unmark, Answered}
-use Rattle.rules.specs.declared.outcome.Outcome.{Outcome}
-use Rattle.rules.specs.declared.outcome.Outcome.TheVariants.{Refuse, Do, Clock}
+use Rattle.rules.specs.Outcome.{Outcome, does}
+use Rattle.std.specs.Prelude.{Ok, Err}
+use Rattle.rules.specs.declared.outcome.Deed.TheVariants.{Do, Clock}
 use Rattle.rules.specs.Search.{count_to}
 use Rattle.rules.specs.Circuit.{overdue, made}
 use Rattle.rules.specs.Numbers.{refusal_number}
@@ -61,7 +62,7 @@ module _ (x y : ℕ → Circuit) (n : ℕ) (e : Event) where
   unmoved o q h = (count_but (λ c. (y c).holder.present) (λ c. (x c).holder.present) n n (λ c l ne. ap (λ (z : Circuit). z.holder.present) (q c l) ∙ ap (λ (p : Part). p.present) (h c))).0 (omega arith)
 
   -- an act on circuit i
-  moved : (a : Act) (i : ℕ) → i < n → Becomes (Do a i) → held y + one (x i).holder.present ≡ held x + one (made e a (x i)).holder.present
+  moved : (a : Act) (i : ℕ) → i < n → Becomes (does a i) → held y + one (x i).holder.present ≡ held x + one (made e a (x i)).holder.present
   moved a i l q =
       let off : (c : ℕ) → c < n → c ≢ i → (y c).holder.present ≡ (x c).holder.present = λ c k ne. ap (λ (z : Circuit). z.holder.present) (q c k) ∙ ap (λ (b : Bool). (cond b (made e a (x c)) (x c)).holder.present) (ne_eqb i c (λ z. ne (sym z))) in
       let on = ap (λ (z : Circuit). one z.holder.present) (q i l) ∙ ap (λ (b : Bool). one (cond b (made e a (x i)) (x i)).holder.present) (eq-eqb i i refl) in
@@ -78,30 +79,30 @@ module _ (x y : ℕ → Circuit) (n : ℕ) (e : Event) where
 
   closed : (o : Outcome) → Grounds x n e o → Becomes o → Closed o
   unfolding answer_of
-  closed (Refuse r) h q =
+  closed (Err r) h q =
       let k = refusal_number r in
       let high = refusal_high r in
       let none : one (is_seizure e.kind k) ≡ 0 = ap (λ (b : Bool). one (eqb e.kind 1 && b)) (λ d. ne_eqb k 1 (λ z. omega arith) d || ne_eqb k 2 (λ z. omega arith) d) ∙ ap one (and-false (eqb e.kind 1)) in
       let not_released = ap one (ne_eqb k 5 (λ z. omega arith)) in
-      omega (arith, unmoved (Refuse r) q (λ c. refl))
-  closed (Do Seize i) h q =
+      omega (arith, unmoved (Err r) q (λ c. refl))
+  closed (Ok (Do Seize i)) h q =
       let b = (x i).holder.present || (anothers e.reference (x i).reservation).present in
       let seized = ap (λ (m : ℕ). one (is_seizure m (cond b 2 1))) h.set_up_lem ∙ by_test (λ (k : ℕ). one (is_seizure 1 k) ≡ 1) b 2 1 (λ t. refl) (λ t. refl) in
       let not_released = by_test (λ (k : ℕ). one (is_release k) ≡ 0) b 2 1 (λ t. refl) (λ t. refl) in
       omega (arith, moved Seize i h.there q)
-  closed (Do Reserve i) h q =
+  closed (Ok (Do Reserve i)) h q =
       let b = (x i).reservation.present in
       let none = no_seizure 3 (cond b 4 3) h.look_ahead_lem refl in
       let not_released = by_test (λ (k : ℕ). one (is_release k) ≡ 0) b 4 3 (λ t. refl) (λ t. refl) in
       omega (arith, moved Reserve i h.there q)
-  closed (Do Release i) h q =
+  closed (Ok (Do Release i)) h q =
       let there = ap one (and_left (x i).holder.present (same (x i).holder.reference e.reference) h.own) in
       omega (arith, no_seizure 2 5 h.kind refl, moved Release i h.there q)
-  closed (Do Cancel i) h q = omega (arith, no_seizure 4 6 h.kind refl, moved Cancel i h.there q)
-  closed (Do Unmark i) h q = omega (arith, no_seizure 6 8 h.kind refl, moved Unmark i h.there q)
-  closed (Do Answered i) h q = omega (arith, no_seizure 7 9 h.kind refl, moved Answered i h.there q)
-  closed Clock h q =
-      let s = unmoved Clock q (λ c. by_test (λ (z : Circuit). z.holder ≡ (x c).holder) (overdue e.clock (x c)) (made e Cancel (x c)) (x c) (λ t. refl) (λ t. refl)) in
+  closed (Ok (Do Cancel i)) h q = omega (arith, no_seizure 4 6 h.kind refl, moved Cancel i h.there q)
+  closed (Ok (Do Unmark i)) h q = omega (arith, no_seizure 6 8 h.kind refl, moved Unmark i h.there q)
+  closed (Ok (Do Answered i)) h q = omega (arith, no_seizure 7 9 h.kind refl, moved Answered i h.there q)
+  closed (Ok Clock) h q =
+      let s = unmoved (Ok Clock) q (λ c. by_test (λ (z : Circuit). z.holder ≡ (x c).holder) (overdue e.clock (x c)) (made e Cancel (x c)) (x c) (λ t. refl) (λ t. refl)) in
       omega (arith, no_seizure 5 7 h refl)
 
 module _ {S : Type 0} (L : Layout S) (W : Lawful L) (s : S) (e : List ℕ) where

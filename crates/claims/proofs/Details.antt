@@ -10,11 +10,12 @@ use Rattle.rules.specs.declared.circuit.Circuit.{Circuit}
 use Rattle.rules.specs.declared.event.Event.{Event}
 use Rattle.rules.specs.declared.outcome.Refusal.{Refusal}
 use Rattle.rules.specs.declared.outcome.Refusal.TheVariants.{Malformed}
-use Rattle.rules.specs.declared.outcome.Outcome.{Outcome}
-use Rattle.rules.specs.declared.outcome.Outcome.TheVariants.{Refuse, Do, Clock}
+use Rattle.rules.specs.Outcome.{Outcome, does}
+use Rattle.std.specs.Prelude.{Ok, Err}
+use Rattle.rules.specs.declared.outcome.Deed.TheVariants.{Do, Clock}
 use Rattle.rules.specs.declared.verdict.Reason.{Reason}
 use Rattle.rules.specs.declared.verdict.Reason.TheVariants.{FlagOrLevel, DigitOrPointCode, NotZero, NotAbove, Repeated}
-use Rattle.rules.specs.declared.verdict.Verdict.{Verdict}
+use Rattle.rules.specs.Verdict.{Verdict}
 use Rattle.rules.specs.Event.{well_formed}
 use Rattle.rules.specs.Decision.{decision}
 use Rattle.rules.specs.Numbers.{reason_number, refusal_number}
@@ -35,9 +36,9 @@ module _ (d : ℕ) where
   Named r = refusal_detail r ≡ detail_at (refusal_number r)
 
   abbrev pub Detailed : Outcome → Type 0
-  Detailed (Refuse r) = Named r
-  Detailed (Do a i) = Unit {0}
-  Detailed Clock = Unit {0}
+  Detailed (Err r) = Named r
+  Detailed (Ok (Do a i)) = Unit {0}
+  Detailed (Ok Clock) = Unit {0}
 
   by_fault : (r : Reason) → d ≡ detail_at (reason_number r)
   by_fault FlagOrLevel = refl
@@ -48,9 +49,9 @@ module _ (d : ℕ) where
 
   module _ (x : ℕ → Circuit) (n : ℕ) (e : Event) where
     by_grounds : (o : Outcome) → GroundsOr x n e Named o → Detailed o
-    by_grounds (Refuse r) h = h
-    by_grounds (Do a i) h = tt
-    by_grounds Clock h = tt
+    by_grounds (Err r) h = h
+    by_grounds (Ok (Do a i)) h = tt
+    by_grounds (Ok Clock) h = tt
 
     -- the rules refuse for no record
     by_rules : well_formed e ≡ true → Detailed (decision x n e)
@@ -62,7 +63,7 @@ pub decided-detail : (t : List ℕ) (e : Event) → table_length (length t) ≡ 
 unfolding outcome_of records checked
 decided-detail t e l =
     let d = (checked t).detail in
-    by_test (Detailed d) (well_formed e) _ (Refuse Malformed)
+    by_test (Detailed d) (well_formed e) _ (Err Malformed)
     (λ w.
     by_verdict (Detailed d) (verdict records t) (decision (circuit_at t) (circuits t) e) (λ v. by_rules d (circuit_at t) (circuits t) e w)
     (λ r i f. sym (ap (λ (v : Verdict). (check_by true v).detail) f) ∙ sym (ap (λ (b : Bool). (check_by b (verdict records t)).detail) l) ∙ by_fault d r))

@@ -10,8 +10,9 @@ use Rattle.rules.specs.declared.circuit.Circuit.{Circuit}
 use Rattle.rules.specs.declared.event.Event.{Event}
 use Rattle.rules.specs.declared.answer.Answer.{Answer}
 use Rattle.rules.specs.declared.outcome.Act.TheVariants.{Seize, Reserve, Release, Cancel, Unmark, Answered}
-use Rattle.rules.specs.declared.outcome.Outcome.{Outcome}
-use Rattle.rules.specs.declared.outcome.Outcome.TheVariants.{Refuse, Do, Clock}
+use Rattle.rules.specs.Outcome.{Outcome, does}
+use Rattle.std.specs.Prelude.{Ok, Err}
+use Rattle.rules.specs.declared.outcome.Deed.TheVariants.{Do, Clock}
 use Rattle.rules.specs.Circuit.{nobody, is_of}
 use Rattle.rules.specs.Numbers.{refusal_number}
 use Rattle.rules.specs.Answer.{refusal_detail, no_loser, anothers, answer_of}
@@ -44,8 +45,8 @@ none-lost false false a b n = (refl, refl)
 module _ (x : ℕ → Circuit) (n : ℕ) (tidy : (i : ℕ) → i < n → Tidy (x i)) (e : Event) where
   who_is_lost : (o : Outcome) → Grounds x n e o → Lost (answer_of x n e o)
   unfolding answer_of
-  who_is_lost (Refuse r) h = nobody-lost (refusal_number r) (refusal_detail r)
-  who_is_lost (Do Seize i) h =
+  who_is_lost (Err r) h = nobody-lost (refusal_number r) (refusal_detail r)
+  who_is_lost (Ok (Do Seize i)) h =
       let q = anothers e.reference (x i).reservation in
       let none = none-lost (x i).holder.present q.present 1 2 in
       record {
@@ -54,13 +55,13 @@ module _ (x : ℕ → Circuit) (n : ℕ) (tidy : (i : ℕ) → i < n → Tidy (x
             λ a b c.
             by_test (λ (p : Part). p.present ≡ false → p ≡ nobody) (is_of e.reference (x i).reservation) nobody (x i).reservation (λ z g. refl) (λ z. (tidy i h.there).reservation) (none a).1;
       }
-  who_is_lost (Do Reserve i) h =
+  who_is_lost (Ok (Do Reserve i)) h =
       record { call = λ a. refl; reservation = λ a b c. (tidy i h.there).reservation (none-lost false (x i).reservation.present 3 4 b).1 }
-  who_is_lost (Do Release i) h = nobody-lost 5 i
-  who_is_lost (Do Cancel i) h = nobody-lost 6 i
-  who_is_lost (Do Unmark i) h = record { call = λ a. refl; reservation = λ a b c. absurd (c refl) }
-  who_is_lost (Do Answered i) h = nobody-lost 9 i
-  who_is_lost Clock h = nobody-lost 7 _
+  who_is_lost (Ok (Do Release i)) h = nobody-lost 5 i
+  who_is_lost (Ok (Do Cancel i)) h = nobody-lost 6 i
+  who_is_lost (Ok (Do Unmark i)) h = record { call = λ a. refl; reservation = λ a b c. absurd (c refl) }
+  who_is_lost (Ok (Do Answered i)) h = nobody-lost 9 i
+  who_is_lost (Ok Clock) h = nobody-lost 7 _
 
 -- over any table: one that is not valid is refused
 answered-lost : (t e : List ℕ) → Lost (answered records t e)

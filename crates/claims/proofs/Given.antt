@@ -14,8 +14,9 @@ use Rattle.rules.specs.declared.event.Event.{Event}
 use Rattle.rules.specs.declared.outcome.Act.TheVariants.{Seize, Reserve, Release, Cancel, Unmark, Answered}
 use Rattle.rules.specs.declared.outcome.Refusal.{Refusal}
 use Rattle.rules.specs.declared.outcome.Refusal.TheVariants.{Malformed, BadRecord, NotAllowed, ByRoutine, AlreadyThere, MarkDiffers, NotThere, NoCircuitForRoutine, NoCircuit, NoCircuitToReserve}
-use Rattle.rules.specs.declared.outcome.Outcome.{Outcome}
-use Rattle.rules.specs.declared.outcome.Outcome.TheVariants.{Refuse, Do, Clock}
+use Rattle.rules.specs.Outcome.{Outcome, does}
+use Rattle.std.specs.Prelude.{Ok, Err}
+use Rattle.rules.specs.declared.outcome.Deed.TheVariants.{Do, Clock}
 use Rattle.rules.specs.declared.verdict.Reason.{Reason}
 use Rattle.rules.specs.declared.verdict.Reason.TheVariants.{FlagOrLevel, DigitOrPointCode, NotZero, NotAbove, Repeated}
 use Rattle.rules.specs.Numbers.{reason_number, refusal_number}
@@ -79,15 +80,15 @@ refusal_answers NoCircuitToReserve = refl
 
 outcome_answers : (x : ℕ → Circuit) (n : ℕ) (e : Event) (o : Outcome) → Answers (answer_of x n e o).number
 unfolding answer_of
-outcome_answers x n e (Refuse r) = refusal_answers r
-outcome_answers x n e (Do Seize i) =
+outcome_answers x n e (Err r) = refusal_answers r
+outcome_answers x n e (Ok (Do Seize i)) =
     by_test Answers ((x i).holder.present || (anothers e.reference (x i).reservation).present) 2 1 (λ q. refl) (λ q. refl)
-outcome_answers x n e (Do Reserve i) = by_test Answers (x i).reservation.present 4 3 (λ q. refl) (λ q. refl)
-outcome_answers x n e (Do Release i) = refl
-outcome_answers x n e (Do Cancel i) = refl
-outcome_answers x n e (Do Unmark i) = refl
-outcome_answers x n e (Do Answered i) = refl
-outcome_answers x n e Clock = refl
+outcome_answers x n e (Ok (Do Reserve i)) = by_test Answers (x i).reservation.present 4 3 (λ q. refl) (λ q. refl)
+outcome_answers x n e (Ok (Do Release i)) = refl
+outcome_answers x n e (Ok (Do Cancel i)) = refl
+outcome_answers x n e (Ok (Do Unmark i)) = refl
+outcome_answers x n e (Ok (Do Answered i)) = refl
+outcome_answers x n e (Ok Clock) = refl
 
 answered-answers : (t e : List ℕ) → Answers (answered records t e).number
 unfolding answered records

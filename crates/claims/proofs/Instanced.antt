@@ -9,7 +9,7 @@ use Rattle.rules.specs.declared.circuit.Circuit.{Circuit}
 use Rattle.rules.specs.Fields.{routine, decimal, parameter_ok, point_code_ok}
 use Rattle.rules.specs.Circuit.{nobody, takeable, worth, rank}
 use Rattle.rules.specs.Choice.{held_by, reserved_by, choice}
-use Rattle.rules.specs.Event.{well_formed}
+use Rattle.rules.specs.Event.{well_formed, kind_of}
 use Rattle.rules.specs.Decision.{on_reservation, set_up, on_holder, decision}
 use Rattle.rules.specs.Answer.{answer_of}
 use Rattle.rules.specs.Valid.{levels_ok, fields_ok, pair_ok, repeated, record_verdict, verdict, valid}
@@ -34,7 +34,7 @@ held_by_one rings =
 
 -- in the one past, and in the other
 shown_both : (shown answered_call 0 ≡ held_by_one false) × (shown ringing_call 0 ≡ held_by_one true)
-unfolding earlier answered_call ringing_call event sets_up is_answered priority turns list_number list_table list_answers list_lengths events_in table_length list_length flatten named after_answer answer_record answered after effect outcome_of decision set_up on_holder on_reservation choice held_by reserved_by rank worth takeable answer_of valid verdict record_verdict repeated levels_ok fields_ok pair_ok decimal point_code_ok well_formed parameter_ok records put_circuit flags_at blank_at
+unfolding earlier answered_call ringing_call event sets_up is_answered priority turns list_number list_table list_answers list_lengths events_in table_length list_length flatten named after_answer answer_record answered after effect outcome_of decision set_up on_holder on_reservation choice held_by reserved_by rank worth takeable answer_of valid verdict record_verdict repeated levels_ok fields_ok pair_ok decimal point_code_ok well_formed kind_of parameter_ok records put_circuit flags_at blank_at
 shown_both = (refl, refl)
 
 -- so a well-formed set-up of call 3 is a new one, and so it is where nobody stands
@@ -57,7 +57,7 @@ module _ (lists : List EventList) (level : ℕ) (w : well_formed (event_at (sets
       asks (held_by_one rings) shows (λ h. let z : ◌≡◌ {A = ℕ} 1 3 = ap (λ (r : List ℕ). get_or r 0 0) h.1 in omega arith) (λ h. true≢false (sym h.0))
 
 pub met : Met
-unfolding earlier answered_call ringing_call event sets_up is_answered priority turns list_number list_table list_answers list_lengths events_in table_length list_length flatten named after_answer answer_record answered after effect outcome_of decision set_up on_holder on_reservation choice held_by reserved_by rank worth takeable answer_of valid verdict record_verdict repeated levels_ok fields_ok pair_ok decimal point_code_ok well_formed parameter_ok records put_circuit flags_at blank_at
+unfolding earlier answered_call ringing_call event sets_up is_answered priority turns list_number list_table list_answers list_lengths events_in table_length list_length flatten named after_answer answer_record answered after effect outcome_of decision set_up on_holder on_reservation choice held_by reserved_by rank worth takeable answer_of valid verdict record_verdict repeated levels_ok fields_ok pair_ok decimal point_code_ok well_formed kind_of parameter_ok records put_circuit flags_at blank_at
 met =
     record {
       asks_priority = asks_held answered_call priority refl false shown_both.0;

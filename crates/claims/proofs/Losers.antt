@@ -12,8 +12,9 @@ use Rattle.rules.specs.declared.circuit.Circuit.{Circuit}
 use Rattle.rules.specs.declared.event.Event.{Event}
 use Rattle.rules.specs.declared.answer.Answer.{Answer}
 use Rattle.rules.specs.declared.outcome.Act.TheVariants.{Seize, Reserve, Release, Cancel, Unmark, Answered}
-use Rattle.rules.specs.declared.outcome.Outcome.{Outcome}
-use Rattle.rules.specs.declared.outcome.Outcome.TheVariants.{Refuse, Do, Clock}
+use Rattle.rules.specs.Outcome.{Outcome, does}
+use Rattle.std.specs.Prelude.{Ok, Err}
+use Rattle.rules.specs.declared.outcome.Deed.TheVariants.{Do, Clock}
 use Rattle.rules.specs.Answer.{answer_of}
 use Rattle.rules.specs.Layout.{Layout}
 use Rattle.rules.specs.Run.{outcome_of, answered}
@@ -39,14 +40,14 @@ Names x n a = (a.detail < n) × (a.call ≡ (x a.detail).holder)
 module _ (x : ℕ → Circuit) (n : ℕ) (e : Event) where
   names : (o : Outcome) → Grounds x n e o → (answer_of x n e o).call.present ≡ true → Names x n (answer_of x n e o)
   unfolding answer_of
-  names (Refuse r) h q = absurd (true≢false (sym q))
-  names (Do Seize i) h q = (h.there, refl)
-  names (Do Reserve i) h q = absurd (true≢false (sym q))
-  names (Do Release i) h q = absurd (true≢false (sym q))
-  names (Do Cancel i) h q = absurd (true≢false (sym q))
-  names (Do Unmark i) h q = absurd (true≢false (sym q))
-  names (Do Answered i) h q = absurd (true≢false (sym q))
-  names Clock h q = absurd (true≢false (sym q))
+  names (Err r) h q = absurd (true≢false (sym q))
+  names (Ok (Do Seize i)) h q = (h.there, refl)
+  names (Ok (Do Reserve i)) h q = absurd (true≢false (sym q))
+  names (Ok (Do Release i)) h q = absurd (true≢false (sym q))
+  names (Ok (Do Cancel i)) h q = absurd (true≢false (sym q))
+  names (Ok (Do Unmark i)) h q = absurd (true≢false (sym q))
+  names (Ok (Do Answered i)) h q = absurd (true≢false (sym q))
+  names (Ok Clock) h q = absurd (true≢false (sym q))
 
 lost-there : {S : Type 0} (L : Layout S) (s : S) (e : List ℕ) → (answered L s e).call.present ≡ true → Names (L.view s) (L.count s) (answered L s e)
 unfolding answered

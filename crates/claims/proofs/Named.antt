@@ -11,8 +11,8 @@ use borrow.Author.Tests.{eqb-true}
 use Rattle.octets.proofs.Tests.{by_eq, by_test}
 use Rattle.rules.specs.declared.verdict.Reason.{Reason}
 use Rattle.rules.specs.declared.verdict.Reason.TheVariants.{FlagOrLevel, DigitOrPointCode, NotZero, NotAbove}
-use Rattle.rules.specs.declared.verdict.Verdict.{Verdict}
-use Rattle.rules.specs.declared.verdict.Verdict.TheVariants.{Valid, Fault}
+use Rattle.rules.specs.Verdict.{Verdict, fault, no_fault}
+use Rattle.std.specs.Prelude.{Ok, Err}
 use Rattle.rules.specs.Numbers.{reason_number}
 use Rattle.rules.specs.Valid.{part_numbered, clash, repeated, record_verdict, verdict}
 use Rattle.rules.specs.Records.{circuit_at, circuits, table_length, records}
@@ -20,10 +20,9 @@ use Rattle.rules.proofs.Numbers.{reason-within}
 use Rattle.rules.proofs.Searches.{nothing-found}
 use Rattle.rules.proofs.Faults.{Facts, valid_is, record-valid, valid_facts}
 use Rattle.rules.proofs.FirstFault.{InRecord, InPart, VerdictIs, verdict_is}
-use Rattle.rules.proofs.Check.{length_facts, check_done}
+use Rattle.rules.proofs.Check.{length_facts, check_done, by_check}
 use Rattle.claims.specs.Named.{flag_or_level, digit_or_point_code, not_zero, not_above, has, repeats, FirstBad, NoneBad, FirstRepeated, FaultNamed, RecordThere, RightLength, ValidExactly}
 use Rattle.claims.proofs.Demanded.{table-length}
-use Rattle.rules.proofs.Check.{by_check}
 use Rattle.claims.proofs.Reasons.{record_is, repeats_is}
 
 module _ (t : List ℕ) where
@@ -40,14 +39,14 @@ module _ (t : List ℕ) where
 
     -- what the verdict on the record says of its octets
     abbrev Says : Verdict → Type 0
-    Says Valid = (m : ℕ) → has t m i ≡ false
-    Says (Fault r j) = (has t (reason_number r) i ≡ true) × ((m : ℕ) → m < reason_number r → has t m i ≡ false)
+    Says (Ok u) = (m : ℕ) → has t m i ≡ false
+    Says (Err flaw) = (has t (reason_number flaw.reason) i ≡ true) × ((m : ℕ) → m < reason_number flaw.reason → has t m i ≡ false)
 
     says : {v : Verdict} → record_verdict records t i ≡ v → Says v
     says e =
         subst Says (sym (record_is t i) ∙ e) (go (flag_or_level t i) (digit_or_point_code t i) (not_zero t i) (not_above t i) refl refl refl refl)
       where
-        go : (f d z a : Bool) → flag_or_level t i ≡ f → digit_or_point_code t i ≡ d → not_zero t i ≡ z → not_above t i ≡ a → Says (cond f (Fault FlagOrLevel i) (cond d (Fault DigitOrPointCode i) (cond z (Fault NotZero i) (cond a (Fault NotAbove i) Valid))))
+        go : (f d z a : Bool) → flag_or_level t i ≡ f → digit_or_point_code t i ≡ d → not_zero t i ≡ z → not_above t i ≡ a → Says (cond f (fault FlagOrLevel i) (cond d (fault DigitOrPointCode i) (cond z (fault NotZero i) (cond a (fault NotAbove i) no_fault))))
         go true d z a p q r s =
             (p, λ m l. none_of m (λ e. absurd (omega arith)) (λ e. absurd (omega arith)) (λ e. absurd (omega arith)) (λ e. absurd (omega arith)))
         go false true z a p q r s =
@@ -80,7 +79,7 @@ module _ (t : List ℕ) where
       here : (k : ℕ) → h.part ≡ k → again k ≡ true
       here k e = subst (λ (n : ℕ). again n ≡ true) e h.repeats
 
-  fault_is : (r : Reason) (i : ℕ) → verdict records t ≡ Fault r i → (i < circuits t) × (InRecord records t r i ⊎ InPart records t r i)
+  fault_is : (r : Reason) (i : ℕ) → verdict records t ≡ fault r i → (i < circuits t) × (InRecord records t r i ⊎ InPart records t r i)
   unfolding records
   fault_is r i e = subst (VerdictIs records t) e (verdict_is records t)
 

@@ -9,8 +9,9 @@ use Rattle.octets.proofs.Width.{value-octets}
 use Rattle.rules.specs.declared.circuit.Circuit.{Circuit}
 use Rattle.rules.specs.declared.event.Event.{Event}
 use Rattle.rules.specs.declared.outcome.Act.TheVariants.{Cancel}
-use Rattle.rules.specs.declared.outcome.Outcome.{Outcome}
-use Rattle.rules.specs.declared.outcome.Outcome.TheVariants.{Refuse, Do, Clock}
+use Rattle.rules.specs.Outcome.{Outcome, does}
+use Rattle.std.specs.Prelude.{Ok, Err}
+use Rattle.rules.specs.declared.outcome.Deed.TheVariants.{Do, Clock}
 use Rattle.rules.specs.Circuit.{overdue, made}
 use Rattle.rules.specs.Run.{outcome_of, sweep_to, effect, after, answered, answer_record, run}
 use Rattle.rules.specs.Records.{circuit_at, circuit_octets, put_circuit, event_at, records, circuits, answer_number, answer_detail}
@@ -37,9 +38,9 @@ length-sweep t e (suc n) =
 
 length-effect : (t : List ℕ) (e : Event) (o : Outcome) → length (effect records t e o) ≡ length t
 unfolding effect records
-length-effect t e (Refuse r) = refl
-length-effect t e (Do a i) = length-circuit t i (made e a (circuit_at t i))
-length-effect t e Clock = length-sweep t e (circuits t)
+length-effect t e (Err r) = refl
+length-effect t e (Ok (Do a i)) = length-circuit t i (made e a (circuit_at t i))
+length-effect t e (Ok Clock) = length-sweep t e (circuits t)
 
 pub length-after : (t e : List ℕ) → length (after records t e) ≡ length t
 unfolding after records

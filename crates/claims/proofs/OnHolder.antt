@@ -11,12 +11,12 @@ use Rattle.octets.proofs.Tests.{and_both}
 use Rattle.rules.specs.declared.circuit.Circuit.{Circuit}
 use Rattle.rules.specs.declared.event.Event.{Event}
 use Rattle.rules.specs.declared.answer.Answer.{Answer}
-use Rattle.std.specs.Prelude.{Option}
+use Rattle.std.specs.Prelude.{Option, Ok, Err}
 use Rattle.rules.specs.declared.outcome.Act.{Act}
 use Rattle.rules.specs.declared.outcome.Act.TheVariants.{Unmark, Answered}
 use Rattle.rules.specs.declared.outcome.Refusal.TheVariants.{Malformed, NotThere}
-use Rattle.rules.specs.declared.outcome.Outcome.{Outcome}
-use Rattle.rules.specs.declared.outcome.Outcome.TheVariants.{Refuse, Do}
+use Rattle.rules.specs.Outcome.{Outcome, does}
+use Rattle.rules.specs.declared.outcome.Deed.TheVariants.{Do}
 use Rattle.rules.specs.Numbers.{cause_of}
 use Rattle.rules.specs.Numbers as number
 use Rattle.rules.specs.Search.{found}
@@ -83,12 +83,12 @@ module _ {a : Act} {k m : ℕ} (K : Lasting a k m) (t f place r : List ℕ) (tak
   still-sound = ap (valid records) (table_then t f place right) ∙ after-valid records lawful t f sound
 
   -- what is decided by the circuit that the call holds
-  by_held : {h : Option ℕ} → held_by x n r ≡ h → outcome_of records t e ≡ found h (Do a) (Refuse NotThere)
+  by_held : {h : Option ℕ} → held_by x n r ≡ h → outcome_of records t e ≡ found h (does a) (Err NotThere)
   unfolding records on_holder
   by_held q =
       by_holder K records t e sound g.kind g.parameter
-      ∙ ap (λ (s : List ℕ). found (held_by x n s) (Do a) (Refuse NotThere)) g.reference
-      ∙ ap (λ (h : Option ℕ). found h (Do a) (Refuse NotThere)) q
+      ∙ ap (λ (s : List ℕ). found (held_by x n s) (does a) (Err NotThere)) g.reference
+      ∙ ap (λ (h : Option ℕ). found h (does a) (Err NotThere)) q
 
   pub nobody-holds : ((c : ℕ) → c < n → StandsIn r (x c).holder → ⊥) → event_number t f place ≡ 27
   unfolding records answered answer_of held_by
@@ -98,7 +98,7 @@ module _ {a : Act} {k m : ℕ} (K : Lasting a k m) (t f place r : List ℕ) (tak
 
   -- the call holds circuit c, and no other
   module _ (c : ℕ) (l : c < n) (holds : StandsIn r (x c).holder) where
-    decides : outcome_of records t e ≡ Do a c
+    decides : outcome_of records t e ≡ does a c
     unfolding records held_by
     decides =
         by_held
@@ -108,14 +108,14 @@ module _ {a : Act} {k m : ℕ} (K : Lasting a k m) (t f place r : List ℕ) (tak
         (λ s. let same = (in_one_part x n (valid_facts records t sound).unique r).one-held d c (omega arith) l s holds in omega arith))
         (so_in r (x c).holder holds))
 
-    answers : answered records t f ≡ answer_of x n e (Do a c)
+    answers : answered records t f ≡ answer_of x n e (does a c)
     unfolding records answered
     answers = ap (answer_of x n e) decides
 
-    pub number-given : event_number t f place ≡ (answer_of x n e (Do a c)).number
+    pub number-given : event_number t f place ≡ (answer_of x n e (does a c)).number
     number-given = number_then t f place right ∙ ap (λ (a : Answer). a.number) answers
 
-    pub answer-given : event_answer t f place ≡ answer_octets (answer_of x n e (Do a c))
+    pub answer-given : event_answer t f place ≡ answer_octets (answer_of x n e (does a c))
     unfolding records answer_record
     answer-given = answer_then t f place right ∙ ap answer_octets answers
 
@@ -123,7 +123,7 @@ module _ {a : Act} {k m : ℕ} (K : Lasting a k m) (t f place r : List ℕ) (tak
     unfolding records after effect
     table-made = table_then t f place right ∙ ap (effect records t e) decides
 
-    becomes_so : (d : ℕ) → d < n → circuit_at (event_table t f place) d ≡ becomes e (Do a c) d (x d)
+    becomes_so : (d : ℕ) → d < n → circuit_at (event_table t f place) d ≡ becomes e (does a c) d (x d)
     unfolding records
     becomes_so d m =
         ap (λ (u : List ℕ). circuit_at u d) (table_then t f place right)

@@ -14,7 +14,7 @@ use Rattle.rules.specs.declared.part.Part.{Part}
 use Rattle.rules.specs.declared.circuit.Circuit.{Circuit}
 use Rattle.rules.specs.declared.event.Event.{Event}
 use Rattle.rules.specs.declared.outcome.Act.{Act}
-use Rattle.rules.specs.declared.outcome.Outcome.{Outcome}
+use Rattle.rules.specs.Outcome.{Outcome}
 use Rattle.rules.specs.Circuit.{is_of, standing, made}
 use Rattle.rules.specs.Answer.{becomes, answer_of}
 use Rattle.rules.specs.Valid.{valid}

@@ -10,10 +10,10 @@ use Rattle.octets.proofs.Tests.{halves, by_test, not_so}
 use Rattle.rules.specs.declared.event.Event.{Event}
 use Rattle.rules.specs.declared.verdict.Reason.{Reason}
 use Rattle.rules.specs.declared.verdict.Reason.TheVariants.{FlagOrLevel, DigitOrPointCode, NotZero, NotAbove, Repeated}
-use Rattle.rules.specs.declared.verdict.Verdict.{Verdict}
+use Rattle.rules.specs.Verdict.{Verdict}
 use Rattle.rules.specs.declared.outcome.Refusal.TheVariants.{Malformed, BadRecord}
-use Rattle.rules.specs.declared.outcome.Outcome.{Outcome}
-use Rattle.rules.specs.declared.outcome.Outcome.TheVariants.{Refuse}
+use Rattle.rules.specs.Outcome.{Outcome}
+use Rattle.std.specs.Prelude.{Ok, Err}
 use Rattle.rules.specs.Event.{well_formed}
 use Rattle.rules.specs.Decision.{unless, decision}
 use Rattle.rules.specs.Numbers.{reason_number}
@@ -54,7 +54,7 @@ module _ (t : List ℕ) (l : table_length (length t) ≡ true) (bad : check_numb
       told : Outcome → List ℕ
       told o = answer_octets (answer_of (circuit_at t) (circuits t) ev o)
 
-      go : (i : ℕ) (r : Reason) (b : Bool) → told (unless b Malformed (Refuse (BadRecord r i))) ≡ cond b (naming (reason_number r) i) (naming 22 65535)
+      go : (i : ℕ) (r : Reason) (b : Bool) → told (unless b Malformed (Err (BadRecord r i))) ≡ cond b (naming (reason_number r) i) (naming 22 65535)
       go i FlagOrLevel true = refl
       go i DigitOrPointCode true = refl
       go i NotZero true = refl

@@ -12,10 +12,9 @@ use Rattle.octets.proofs.Tests.{and_assoc, by_eq, by_so}
 use Rattle.octets.proofs.Spans.{length-span, span_at, zeros_more, zeros_then}
 use Rattle.octets.proofs.Sames.{same_agree, same_differ}
 use Rattle.rules.specs.declared.part.Part.{Part}
-use Rattle.std.specs.Prelude.{Option}
-use Rattle.std.specs.Prelude.{Some, None}
+use Rattle.std.specs.Prelude.{Option, Some, None, Ok, Err}
 use Rattle.rules.specs.declared.verdict.Reason.TheVariants.{FlagOrLevel, DigitOrPointCode, NotZero, NotAbove}
-use Rattle.rules.specs.declared.verdict.Verdict.TheVariants.{Valid, Fault}
+use Rattle.rules.specs.Verdict.{fault, no_fault}
 use Rattle.rules.specs.Fields.{decimal, point_code_ok}
 use Rattle.rules.specs.Search.{first_to, or_else, found}
 use Rattle.rules.specs.Circuit.{same_mark, no_precedence}
@@ -193,14 +192,14 @@ module _ (t : List ℕ) where
         if_both (present t (holder i)) (present t (reservation i))
         (three_rules (if_present_lem (present t (holder i)) (both_rules (not_above_lem (octet t (holder i + 1)) 4) (by_so_not (eqb (octet t (ringing i)) 1)))) (same_are (reservation i + 2) (holder i + 2) 5) (by_not (ltb (octet t (reservation i + 1)) (octet t (holder i + 1)))))
 
-    pub record_is : record_verdict records t i ≡ cond (flag_or_level t i) (Fault FlagOrLevel i) (cond (digit_or_point_code t i) (Fault DigitOrPointCode i) (cond (not_zero t i) (Fault NotZero i) (cond (not_above t i) (Fault NotAbove i) Valid)))
+    pub record_is : record_verdict records t i ≡ cond (flag_or_level t i) (fault FlagOrLevel i) (cond (digit_or_point_code t i) (fault DigitOrPointCode i) (cond (not_zero t i) (fault NotZero i) (cond (not_above t i) (fault NotAbove i) no_fault)))
     unfolding record_verdict records
     record_is =
         λ d.
-        cond (turned levels_fine d) (Fault FlagOrLevel i)
-        (cond (turned fields_fine d) (Fault DigitOrPointCode i)
-        (cond (turned blank_fine d) (Fault NotZero i)
-        (cond (turned pair_fine d) (Fault NotAbove i) Valid)))
+        cond (turned levels_fine d) (fault FlagOrLevel i)
+        (cond (turned fields_fine d) (fault DigitOrPointCode i)
+        (cond (turned blank_fine d) (fault NotZero i)
+        (cond (turned pair_fine d) (fault NotAbove i) no_fault)))
 
   -- ---- record i among others
   stands_is : (p o : ℕ) → clash (part_at t p) (part_at t o) ≡ stands_in t p o

@@ -11,8 +11,9 @@ use Rattle.rules.specs.declared.circuit.Circuit.{Circuit}
 use Rattle.rules.specs.declared.event.Event.{Event}
 use Rattle.rules.specs.declared.outcome.Act.TheVariants.{Seize, Reserve, Release, Cancel, Unmark, Answered}
 use Rattle.rules.specs.declared.outcome.Refusal.{Refusal}
-use Rattle.rules.specs.declared.outcome.Outcome.{Outcome}
-use Rattle.rules.specs.declared.outcome.Outcome.TheVariants.{Refuse, Do, Clock}
+use Rattle.rules.specs.Outcome.{Outcome, does}
+use Rattle.std.specs.Prelude.{Ok, Err}
+use Rattle.rules.specs.declared.outcome.Deed.TheVariants.{Do, Clock}
 use Rattle.rules.specs.Numbers.{wrong_length, refusal_number, cause_of}
 use Rattle.rules.specs.Answer.{anothers, answer_of}
 use Rattle.rules.specs.Run.{outcome_of, effect, after, answered, answer_record}
@@ -27,25 +28,25 @@ use Rattle.claims.proofs.Details.{Detailed, decided-detail}
 
 -- ---- one event
 -- an outcome that is answered by 20 or more is a refusal, so what holds of each refusal holds of it
-by_refusal : (x : ℕ → Circuit) (n : ℕ) (e : Event) (P : Outcome → Type 0) → ((r : Refusal) → P (Refuse r)) → (o : Outcome) → 20 ≤ (answer_of x n e o).number → P o
+by_refusal : (x : ℕ → Circuit) (n : ℕ) (e : Event) (P : Outcome → Type 0) → ((r : Refusal) → P (Err r)) → (o : Outcome) → 20 ≤ (answer_of x n e o).number → P o
 unfolding answer_of
-by_refusal x n e P g (Refuse r) h = g r
-by_refusal x n e P g (Do Seize i) h =
+by_refusal x n e P g (Err r) h = g r
+by_refusal x n e P g (Ok (Do Seize i)) h =
     absurd (low ((x i).holder.present || (anothers e.reference (x i).reservation).present) h)
   where
     low : (b : Bool) → 20 ≤ cond b 2 1 → ⊥
     low true h = omega arith
     low false h = omega arith
-by_refusal x n e P g (Do Reserve i) h = absurd (low (x i).reservation.present h)
+by_refusal x n e P g (Ok (Do Reserve i)) h = absurd (low (x i).reservation.present h)
   where
     low : (b : Bool) → 20 ≤ cond b 4 3 → ⊥
     low true h = omega arith
     low false h = omega arith
-by_refusal x n e P g (Do Release i) h = absurd (omega arith)
-by_refusal x n e P g (Do Cancel i) h = absurd (omega arith)
-by_refusal x n e P g (Do Unmark i) h = absurd (omega arith)
-by_refusal x n e P g (Do Answered i) h = absurd (omega arith)
-by_refusal x n e P g Clock h = absurd (omega arith)
+by_refusal x n e P g (Ok (Do Release i)) h = absurd (omega arith)
+by_refusal x n e P g (Ok (Do Cancel i)) h = absurd (omega arith)
+by_refusal x n e P g (Ok (Do Unmark i)) h = absurd (omega arith)
+by_refusal x n e P g (Ok (Do Answered i)) h = absurd (omega arith)
+by_refusal x n e P g (Ok Clock) h = absurd (omega arith)
 
 refused-effect : (t : List ℕ) (e : Event) (o : Outcome) → 20 ≤ (answer_of (circuit_at t) (circuits t) e o).number → effect records t e o ≡ t
 unfolding effect

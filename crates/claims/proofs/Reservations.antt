@@ -14,7 +14,9 @@ use Rattle.rules.specs.declared.circuit.Circuit.{Circuit}
 use Rattle.rules.specs.declared.event.Event.{Event}
 use Rattle.rules.specs.declared.outcome.Act.{Act}
 use Rattle.rules.specs.declared.outcome.Act.TheVariants.{Seize, Reserve, Release, Cancel, Unmark, Answered}
-use Rattle.rules.specs.declared.outcome.Outcome.TheVariants.{Refuse, Do, Clock}
+use Rattle.std.specs.Prelude.{Ok, Err}
+use Rattle.rules.specs.declared.outcome.Deed.TheVariants.{Do, Clock}
+use Rattle.rules.specs.Outcome.{does}
 use Rattle.rules.specs.Circuit.{nobody, is_of, limit, age, made, overdue as isOverdue}
 use Rattle.rules.specs.Answer.{becomes, anothers, answer_of}
 use Rattle.rules.specs.Records.{circuit_at, loser, answer_octets, circuits, answer_number, answer_detail, lost_reservation}
@@ -55,7 +57,7 @@ module _ (t : List ℕ) (p : Turn) where
     by_taking o k l a named lost =
         higher-call k (by_higher p l a i named (x i).reservation lost_reservation there (length-span t (32 * i + 12 + 7) 5) (above-reservation x n e i o there) lost)
 
-    by_seizure : Grounds x n e (Do Seize i) → p.answer ≡ answer_octets (answer_of x n e (Do Seize i)) → Goes i p (x i)
+    by_seizure : Grounds x n e (does Seize i) → p.answer ≡ answer_octets (answer_of x n e (does Seize i)) → Goes i p (x i)
     unfolding answer_of
     by_seizure r a =
         by_so (is_of e.reference (x i).reservation)
@@ -66,15 +68,15 @@ module _ (t : List ℕ) (p : Turn) where
         by_taking (⊎_elim (λ own. absurd (true≢false (sym own.0 ∙ other))) (λ o. o.0) r.given) (inl r.set_up_lem) _ a (value-octets 1 i)
         (ap (λ (b : Bool). loser (cond b nobody (x i).reservation)) other))
 
-    by_reserving : Grounds x n e (Do Reserve i) → p.answer ≡ answer_octets (answer_of x n e (Do Reserve i)) → Goes i p (x i)
+    by_reserving : Grounds x n e (does Reserve i) → p.answer ≡ answer_octets (answer_of x n e (does Reserve i)) → Goes i p (x i)
     unfolding answer_of
     by_reserving r a = by_taking r.given.0 (inr r.look_ahead_lem) _ a (value-octets 1 i) refl
 
-    by_cancel : Grounds x n e (Do Cancel i) → p.answer ≡ answer_octets (answer_of x n e (Do Cancel i)) → Goes i p (x i)
+    by_cancel : Grounds x n e (does Cancel i) → p.answer ≡ answer_octets (answer_of x n e (does Cancel i)) → Goes i p (x i)
     unfolding answer_of
     by_cancel r a = cancelled (by_own p _ a i (value-octets 1 i) _ _ r.kind r.own) (ap answer_number a)
 
-    by_no_service : Grounds x n e (Do Unmark i) → p.answer ≡ answer_octets (answer_of x n e (Do Unmark i)) → Goes i p (x i)
+    by_no_service : Grounds x n e (does Unmark i) → p.answer ≡ answer_octets (answer_of x n e (does Unmark i)) → Goes i p (x i)
     unfolding answer_of
     by_no_service r a =
         marked_off (by_own p _ a i (value-octets 1 i) _ _ r.kind r.own) (ap answer_number a)
@@ -83,19 +85,19 @@ module _ (t : List ℕ) (p : Turn) where
   abbrev StaysAt : ℕ → Turn → Circuit → Circuit → Type 0
   StaysAt c q = Stays
 
-  at_act : (c : ℕ) → (x c).reservation.present ≡ true → (a : Act) (i : ℕ) → ((x i).reservation.present ≡ true → After (λ y. y.reservation) StaysAt Goes i p (x i) (made e a (x i))) → After (λ y. y.reservation) StaysAt Goes c p (x c) (becomes e (Do a i) c (x c))
+  at_act : (c : ℕ) → (x c).reservation.present ≡ true → (a : Act) (i : ℕ) → ((x i).reservation.present ≡ true → After (λ y. y.reservation) StaysAt Goes i p (x i) (made e a (x i))) → After (λ y. y.reservation) StaysAt Goes c p (x c) (becomes e (does a i) c (x c))
   at_act = acted (λ y. y.reservation) StaysAt Goes (λ c q y. (refl, refl)) x p
 
   at_turn : AtTurn (λ y. y.reservation) StaysAt Goes t p
   unfolding answer_of
-  at_turn c there (Refuse r) h a = inl (refl, refl)
-  at_turn c there (Do Seize i) h a = at_act c there Seize i (λ q. inr (by_seizure i q h a))
-  at_turn c there (Do Reserve i) h a = at_act c there Reserve i (λ q. inr (by_reserving i q h a))
-  at_turn c there (Do Release i) h a = at_act c there Release i (λ q. inl (refl, refl))
-  at_turn c there (Do Cancel i) h a = at_act c there Cancel i (λ q. inr (by_cancel i q h a))
-  at_turn c there (Do Unmark i) h a = at_act c there Unmark i (λ q. inr (by_no_service i q h a))
-  at_turn c there (Do Answered i) h a = at_act c there Answered i (λ q. inl (refl, refl))
-  at_turn c there Clock h a =
+  at_turn c there (Err r) h a = inl (refl, refl)
+  at_turn c there (Ok (Do Seize i)) h a = at_act c there Seize i (λ q. inr (by_seizure i q h a))
+  at_turn c there (Ok (Do Reserve i)) h a = at_act c there Reserve i (λ q. inr (by_reserving i q h a))
+  at_turn c there (Ok (Do Release i)) h a = at_act c there Release i (λ q. inl (refl, refl))
+  at_turn c there (Ok (Do Cancel i)) h a = at_act c there Cancel i (λ q. inr (by_cancel i q h a))
+  at_turn c there (Ok (Do Unmark i)) h a = at_act c there Unmark i (λ q. inr (by_no_service i q h a))
+  at_turn c there (Ok (Do Answered i)) h a = at_act c there Answered i (λ q. inl (refl, refl))
+  at_turn c there (Ok Clock) h a =
       by_test (λ (z : Circuit). Stays (x c) z ⊎ Goes c p (x c)) (isOverdue e.clock (x c)) (made e Cancel (x c)) (x c)
       (λ z. inr (overdue h (ap answer_number a) (overdue-old e.clock (x c) z)))
       (λ z. inl (refl, refl))

@@ -1,4 +1,5 @@
 -- Demand 3 of one set-up: from any valid table, if circuit by circuit it shows what the history says.
+use Rattle.rules.specs.Event.{kind_of}
 use Prim.Native.Nat.{ℕ, ◌+◌, ◌*◌, ◌/◌, ◌%◌, ◌<◌, ◌≤◌}
 use mathlib.Core.Path.{◌≡◌, refl, sym, ap, ap₂, ◌∙◌, subst}
 use mathlib.Core.Logic.{◌⊎◌, inl, inr}
@@ -14,12 +15,12 @@ use Rattle.octets.proofs.Spans.{length-span, span_all}
 use Rattle.rules.specs.declared.part.Part.{Part}
 use Rattle.rules.specs.declared.circuit.Circuit.{Circuit}
 use Rattle.rules.specs.declared.event.Event.{Event}
-use Rattle.std.specs.Prelude.{Option}
-use Rattle.std.specs.Prelude.{Some, None}
+use Rattle.std.specs.Prelude.{Option, Some, None, Ok, Err}
 use Rattle.rules.specs.declared.outcome.Act.TheVariants.{Seize}
 use Rattle.rules.specs.declared.outcome.Refusal.TheVariants.{Malformed, NoCircuitForRoutine, NoCircuit}
-use Rattle.rules.specs.declared.outcome.Outcome.TheVariants.{Refuse, Do}
-use Rattle.rules.specs.declared.verdict.Verdict.{Verdict}
+use Rattle.rules.specs.declared.outcome.Deed.TheVariants.{Do}
+use Rattle.rules.specs.Outcome.{does}
+use Rattle.rules.specs.Verdict.{Verdict}
 use Rattle.rules.specs.Search.{found}
 use Rattle.rules.specs.Circuit.{is_routine, nobody, is_of, made}
 use Rattle.rules.specs.Choice.{held_by, reserved_by, choice}
@@ -53,11 +54,11 @@ module _ (x : ℕ → Circuit) (n : ℕ) (e : Event) (new : NewSetUp n x e) wher
   no_reservation =
       first_none (λ i. is_of e.reference (x i).reservation) n (λ c l. not_in e.reference (x c).reservation (new.reserves_nothing c l))
 
-  new-decision : decision x n e ≡ found (choice x n e.mark) (Do Seize) (Refuse (blocked e))
-  unfolding decision set_up
+  new-decision : decision x n e ≡ found (choice x n e.mark) (does Seize) (Err (blocked e))
+  unfolding decision kind_of set_up
   new-decision = simp (new.is_set_up, no_holder, no_reservation)
 
-new-decided : {S : Type 0} (L : Layout S) (s : S) (e : Event) → valid L s ≡ true → NewSetUp (L.count s) (L.view s) e → outcome_of L s e ≡ found (choice (L.view s) (L.count s) e.mark) (Do Seize) (Refuse (blocked e))
+new-decided : {S : Type 0} (L : Layout S) (s : S) (e : Event) → valid L s ≡ true → NewSetUp (L.count s) (L.view s) e → outcome_of L s e ≡ found (choice (L.view s) (L.count s) e.mark) (does Seize) (Err (blocked e))
 unfolding outcome_of valid
 new-decided L s e v new =
     ap₂ (λ (b : Bool) (w : Verdict). unless b Malformed (if_sound w (decision (L.view s) (L.count s) e))) new.is_well_formed (valid_is (verdict L s) v)
@@ -175,10 +176,10 @@ module _ (t : List ℕ) (v : valid records t ≡ true) (x : ℕ → Circuit) (q 
             reserves_nothing = λ c l h. new.reserves_nothing c l (subst (λ (y : Circuit). StandsIn e.reference y.reservation) (q c l) h);
           }
 
-      said : answered records t p.event ≡ answer_of X n e (found (choice X n e.mark) (Do Seize) (Refuse (blocked e)))
+      said : answered records t p.event ≡ answer_of X n e (found (choice X n e.mark) (does Seize) (Err (blocked e)))
       said = ap (answer_of X n e) (new-decided records t e v over)
 
-      go : (r : Option ℕ) → ChoiceIs X n e.mark r → p.answer ≡ answer_octets (answer_of X n e (found r (Do Seize) (Refuse (blocked e)))) → Answered n x then_shown e p.answer
+      go : (r : Option ℕ) → ChoiceIs X n e.mark r → p.answer ≡ answer_octets (answer_of X n e (found r (does Seize) (Err (blocked e)))) → Answered n x then_shown e p.answer
       go None h a = refused h (a ∙ want_octets_lem (is_routine e.mark.level))
       go (Some i) h a =
           let l = h.0 in

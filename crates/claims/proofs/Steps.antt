@@ -14,8 +14,9 @@ use Rattle.rules.specs.declared.event.Event.{Event}
 use Rattle.rules.specs.declared.answer.Answer.{Answer}
 use Rattle.rules.specs.declared.outcome.Act.{Act}
 use Rattle.rules.specs.declared.outcome.Act.TheVariants.{Seize, Reserve, Release, Cancel, Unmark, Answered}
-use Rattle.rules.specs.declared.outcome.Outcome.{Outcome}
-use Rattle.rules.specs.declared.outcome.Outcome.TheVariants.{Refuse, Do, Clock}
+use Rattle.rules.specs.Outcome.{Outcome, does}
+use Rattle.std.specs.Prelude.{Ok, Err}
+use Rattle.rules.specs.declared.outcome.Deed.TheVariants.{Do, Clock}
 use Rattle.rules.specs.Numbers as number
 use Rattle.rules.specs.Circuit.{made, overdue}
 use Rattle.rules.specs.Answer.{becomes, anothers, answer_of}
@@ -66,11 +67,11 @@ module _ (t : List ℕ) (p : Turn) (c : ℕ) where
     elsewhere f s = f (sym detail_is ∙ s)
 
   -- an act on circuit i, by an answer with this number and circuit: `here` says what it is on circuit c, and another circuit is kept
-  at_act : (a : Act) (i : ℕ) → (answer_of x n e (Do a i)).detail ≡ i → p.answer ≡ answer_octets (answer_of x n e (Do a i)) → (i ≡ c → Step c p (x c) (made e a (x c))) → Step c p (x c) (becomes e (Do a i) c (x c))
+  at_act : (a : Act) (i : ℕ) → (answer_of x n e (does a i)).detail ≡ i → p.answer ≡ answer_octets (answer_of x n e (does a i)) → (i ≡ c → Step c p (x c) (made e a (x c))) → Step c p (x c) (becomes e (does a i) c (x c))
   at_act a i detail is here =
       by_test (Step c p (x c)) (eqb i c) (made e a (x c)) (x c) (λ q. here (eqb-true i c q))
       (λ q.
-      let other = elsewhere (answer_of x n e (Do a i)) is (λ z. eqb-false i c q (sym detail ∙ z)) in
+      let other = elsewhere (answer_of x n e (does a i)) is (λ z. eqb-false i c q (sym detail ∙ z)) in
       keeps (λ s. other s.1) (λ s. other s.1) refl refl refl)
 
   -- an answer that says nothing of ringing
@@ -79,38 +80,38 @@ module _ (t : List ℕ) (p : Turn) (c : ℕ) where
 
   at_turn : (o : Outcome) → Grounds x n e o → p.answer ≡ answer_octets (answer_of x n e o) → Step c p (x c) (becomes e o c (x c))
   unfolding answer_of
-  at_turn (Refuse r) h is =
+  at_turn (Err r) h is =
       let high = refusal_high r in
-      keeps_all (answer_of x n e (Refuse r)) is (λ q. omega arith) (λ q. omega arith) (λ q. omega arith) (x c) refl refl refl
-  at_turn (Do Seize i) h is =
+      keeps_all (answer_of x n e (Err r)) is (λ q. omega arith) (λ q. omega arith) (λ q. omega arith) (x c) refl refl refl
+  at_turn (Ok (Do Seize i)) h is =
       at_act Seize i refl is
       (λ q.
       let lost = (x i).holder.present || (anothers e.reference (x i).reservation).present in
       seizes h.set_up_lem
-      (by_test (λ (k : ℕ). answer_number p.answer ≡ k → (answer_number p.answer ≡ 1) ⊎ (answer_number p.answer ≡ 2)) lost 2 1 (λ b. inr) (λ b. inl) (number_is (answer_of x n e (Do Seize i)) is), detail_is (answer_of x n e (Do Seize i)) is ∙ q)
+      (by_test (λ (k : ℕ). answer_number p.answer ≡ k → (answer_number p.answer ≡ 1) ⊎ (answer_number p.answer ≡ 2)) lost 2 1 (λ b. inr) (λ b. inl) (number_is (answer_of x n e (does Seize i)) is), detail_is (answer_of x n e (does Seize i)) is ∙ q)
       refl refl)
-  at_turn (Do Reserve i) h is =
-      let a = answer_of x n e (Do Reserve i) in
+  at_turn (Ok (Do Reserve i)) h is =
+      let a = answer_of x n e (does Reserve i) in
       let other : (k : ℕ) → k ≢ 3 → k ≢ 4 → a.number ≢ k = λ k f g. by_test (λ (m : ℕ). m ≢ k) (x i).reservation.present 4 3 (λ b q. g (sym q)) (λ b q. f (sym q)) in
       at_act Reserve i refl is
       (λ q. keeps_all a is (other 1 (λ z. omega arith) (λ z. omega arith)) (other 2 (λ z. omega arith) (λ z. omega arith)) (other 9 (λ z. omega arith) (λ z. omega arith)) (made e Reserve (x c)) refl refl refl)
-  at_turn (Do Release i) h is = at_act Release i refl is (λ q. leaves refl)
-  at_turn (Do Cancel i) h is =
+  at_turn (Ok (Do Release i)) h is = at_act Release i refl is (λ q. leaves refl)
+  at_turn (Ok (Do Cancel i)) h is =
       at_act Cancel i refl is
-      (λ q. keeps_all (answer_of x n e (Do Cancel i)) is (λ z. omega arith) (λ z. omega arith) (λ z. omega arith) (made e Cancel (x c)) refl refl refl)
-  at_turn (Do Unmark i) h is =
+      (λ q. keeps_all (answer_of x n e (does Cancel i)) is (λ z. omega arith) (λ z. omega arith) (λ z. omega arith) (made e Cancel (x c)) refl refl refl)
+  at_turn (Ok (Do Unmark i)) h is =
       at_act Unmark i refl is
-      (λ q. keeps_all (answer_of x n e (Do Unmark i)) is (λ z. omega arith) (λ z. omega arith) (λ z. omega arith) (made e Unmark (x c)) refl refl refl)
-  at_turn (Do Answered i) h is =
+      (λ q. keeps_all (answer_of x n e (does Unmark i)) is (λ z. omega arith) (λ z. omega arith) (λ z. omega arith) (made e Unmark (x c)) refl refl refl)
+  at_turn (Ok (Do Answered i)) h is =
       at_act Answered i refl is
       (λ q.
-      let a = answer_of x n e (Do Answered i) in
+      let a = answer_of x n e (does Answered i) in
       ends h.kind (sym (stands_in_lem e.reference (x i).holder h.own).1 ∙ ap (λ (d : ℕ). (x d).holder.reference) q) (number_is a is, detail_is a is ∙ q) refl refl)
-  at_turn Clock h is =
+  at_turn (Ok Clock) h is =
       by_test (Step c p (x c)) (overdue e.clock (x c)) (made e Cancel (x c)) (x c) (λ q. clock (made e Cancel (x c)) refl refl refl) (λ q. clock (x c) refl refl refl)
     where
       clock : (z : Circuit) → z.holder.present ≡ (x c).holder.present → z.holder.reference ≡ (x c).holder.reference → z.ringing ≡ (x c).ringing → Step c p (x c) z
-      clock = keeps_all (answer_of x n e Clock) is (λ z. omega arith) (λ z. omega arith) (λ z. omega arith)
+      clock = keeps_all (answer_of x n e (Ok Clock)) is (λ z. omega arith) (λ z. omega arith) (λ z. omega arith)
 
 pub steps : (n : ℕ) (lists : List EventList) (before : List Turn) (p : Turn) (later : List Turn) → past (empty_table n) lists ≡ before ++ p ∷ later → (c : ℕ) → c < n → Step c p (history before c) (history (before ++ p ∷ []) c)
 steps = each_turn Step (λ t v p c o h is. at_turn t p c o h is)

@@ -1,13 +1,13 @@
 -- The customer says of number 28, which 01 prints as "set-up on its reservation, holder there not strictly lower in the same domain" (02, L6):
 -- "Trainers ask how to provoke 28 and nobody can: a valid table has each reservation strictly above its holder in the same domain, and L4 drops it
 -- with the mark. Prove that no input gives 28, and take it out of the table, the order and the callers."
-use Rattle.std.specs.Prelude.{ℕ, ◌/◌, ◌<◌, ◌≡◌, ◌⊎◌, ◌≢◌, Bool, true, false, cond, ◌||◌, not, List, [], ◌∷◌, ◌++◌, length, eqb}
+use Rattle.std.specs.Prelude.{ℕ, ◌/◌, ◌<◌, ◌≡◌, ◌⊎◌, ◌≢◌, Bool, true, false, cond, ◌||◌, not, List, [], ◌∷◌, ◌++◌, length, eqb, Ok, Err}
 use Rattle.rules.specs.declared.circuit.Circuit.{Circuit}
 use Rattle.rules.specs.declared.event.Event.{Event}
 use Rattle.rules.specs.declared.outcome.Act.TheVariants.{Seize}
 use Rattle.rules.specs.declared.outcome.Refusal.TheVariants.{MarkDiffers}
-use Rattle.rules.specs.declared.outcome.Outcome.{Outcome}
-use Rattle.rules.specs.declared.outcome.Outcome.TheVariants.{Refuse, Do}
+use Rattle.rules.specs.Outcome.{Outcome, does}
+use Rattle.rules.specs.declared.outcome.Deed.TheVariants.{Do}
 use Rattle.rules.specs.Circuit.{outranks, same_mark, unreserved}
 use Rattle.rules.specs.Decision.{on_reservation}
 use Rattle.rules.specs.Numbers.{done}
@@ -53,7 +53,7 @@ holder_lower e y = not y.holder.present || outranks e.mark y.holder.mark
 -- 01's rule for a set-up on its own reservation, on circuit i, which is y, with the test of 28 where 01 has it, after that of 26. No contract cites it.
 abbrev pub printed : Event → Circuit → ℕ → Decided
 printed e y i =
-    cond (same_mark e.mark y.reservation.mark) (cond (holder_lower e y) (decides (Do Seize i)) (refuses 28)) (decides (Refuse MarkDiffers))
+    cond (same_mark e.mark y.reservation.mark) (cond (holder_lower e y) (decides (does Seize i)) (refuses 28)) (decides (Err MarkDiffers))
 
 -- AS PRINTED: on any table that the check takes, the rule with the test of 28 decides what the rule without it decides, for each event and each
 -- circuit that the event's call has reserved. So no input had 28, and no decision went with its test.

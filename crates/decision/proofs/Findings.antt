@@ -1,8 +1,7 @@
 -- What follows from a search r, where the code found f.
 use Prim.Native.Nat.{ℕ, ◌<◌}
 use mathlib.Core.Path.{◌≡◌, sym, ap, ◌∙◌, subst}
-use Rattle.std.specs.Prelude.{Option}
-use Rattle.std.specs.Prelude.{Some, None}
+use Rattle.std.specs.Prelude.{Option, Some, None}
 use Rattle.rules.specs.Search.{found}
 
 module _ {A : Type 0} (y : ℕ → A) (z : A) {f r : Option ℕ} where

@@ -5,10 +5,9 @@ use mathlib.Core.Bool.{Bool, true}
 use mathlib.Core.List.{List}
 use Rattle.rules.specs.declared.circuit.Circuit.{Circuit}
 use Rattle.rules.specs.declared.event.Event.{Event}
-use Rattle.std.specs.Prelude.{Option}
-use Rattle.std.specs.Prelude.{Some, None}
-use Rattle.rules.specs.declared.outcome.Outcome.{Outcome}
-use Rattle.rules.specs.declared.outcome.Outcome.TheVariants.{Refuse, Do, Clock}
+use Rattle.std.specs.Prelude.{Option, Some, None, Ok, Err}
+use Rattle.rules.specs.Outcome.{Outcome, does}
+use Rattle.rules.specs.declared.outcome.Deed.TheVariants.{Do, Clock}
 use Rattle.rules.specs.Search.{first_to}
 use Rattle.rules.specs.Circuit.{is_of}
 use Rattle.rules.specs.Choice.{reserved_by}
@@ -42,6 +41,6 @@ ready t v e w = go (decision (circuit_at t) (circuits t) e) (right (circuit_at t
     facts = valid_facts records t v
 
     go : (o : Outcome) → Suits (circuit_at t) (circuits t) e o → Ready t o
-    go (Refuse r) h = tt
-    go (Do a i) h = (h.0, facts.flags i h.0, facts.blank i h.0)
-    go Clock h = tt
+    go (Err r) h = tt
+    go (Ok (Do a i)) h = (h.0, facts.flags i h.0, facts.blank i h.0)
+    go (Ok Clock) h = tt

@@ -9,11 +9,9 @@ use Rattle.octets.proofs.Tests.{by_test}
 use Rattle.rules.specs.declared.part.Part.{Part}
 use Rattle.rules.specs.declared.circuit.Circuit.{Circuit}
 use Rattle.rules.specs.declared.event.Event.{Event}
-use Rattle.std.specs.Prelude.{Option}
-use Rattle.std.specs.Prelude.{Some, None}
+use Rattle.std.specs.Prelude.{Option, Some, None, Ok, Err}
 use Rattle.rules.specs.declared.outcome.Act.TheVariants.{Seize}
 use Rattle.rules.specs.declared.outcome.Refusal.TheVariants.{AlreadyThere}
-use Rattle.rules.specs.declared.outcome.Outcome.TheVariants.{Refuse}
 use Rattle.rules.specs.Search.{found}
 use Rattle.rules.specs.Circuit.{is_of}
 use Rattle.rules.specs.Choice.{held_by, reserved_by}
@@ -63,6 +61,6 @@ module _ (x : ℕ → Circuit) (n : ℕ) (e : Event) where
   unfolding set_up
   choice-made = both_nothing (held_by x n e.reference) (reserved_by x n e.reference) _ _ _
 
-  pub holder-refused : stands_nowhere x n e.reference ≡ false → reserved_by x n e.reference ≡ None → Refuse AlreadyThere ≡ set_up x n e
+  pub holder-refused : stands_nowhere x n e.reference ≡ false → reserved_by x n e.reference ≡ None → Err AlreadyThere ≡ set_up x n e
   unfolding set_up
   holder-refused = first_found (held_by x n e.reference) (reserved_by x n e.reference) _ _

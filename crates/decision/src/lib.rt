@@ -11,8 +11,8 @@ ghost use Rattle.rules.specs.Run.{outcome_of};
 ghost use Rattle.rules.specs.Records.{circuits, circuit_at, most_circuits, records};
 ghost use Rattle.rules.specs.Ready.{Ready};
 
-use rules::event::Event;
-use rules::outcome::{Act, Outcome, Refusal};
+use rules::event::{Event, Kind};
+use rules::outcome::{Act, Deed, Outcome, Refusal};
 use rules::parameter;
 use rules::part::{Part, Reference};
 use rules::verdict::Verdict;
@@ -22,10 +22,10 @@ use rules::verdict::Verdict;
 fn on_reservation(e: Event, reservation: Part, i: usize) -> Outcome
     ensures { result ≡ on_reservation e reservation i }
 {
-    if !e.mark.equals(reservation.mark) {
-        return Outcome::Refuse(Refusal::MarkDiffers);
+    if e.mark != reservation.mark {
+        return Err(Refusal::MarkDiffers);
     }
-    Outcome::Do(Act::Seize, i)
+    Ok(Deed::Do(Act::Seize, i))
 }
 
 // Says why a set-up that finds no circuit is refused.
@@ -53,9 +53,8 @@ fn set_up_reserver(t: &[u8], e: Event, i: usize) -> Outcome
     requires reference_value { reserved_by (circuit_at t.now) (circuits t.now) e.reference ≡ Some i }
     ensures { result ≡ set_up (circuit_at t.now) (circuits t.now) e }
 {
-    let reference = e.reference;
-    match choice::held_by(t, reference) {
-        Some(_) => Outcome::Refuse(Refusal::AlreadyThere),
+    match choice::held_by(t, e.reference) {
+        Some(_) => Err(Refusal::AlreadyThere),
         None => on_reservation(e, table::reservation_at(t, i), i),
     }
 }
@@ -65,10 +64,9 @@ fn set_up_known(t: &[u8], e: Event) -> Outcome
     requires { stands_nowhere (circuit_at t.now) (circuits t.now) e.reference ≡ false }
     ensures { result ≡ set_up (circuit_at t.now) (circuits t.now) e }
 {
-    let reference = e.reference;
-    match choice::reserved_by(t, reference) {
+    match choice::reserved_by(t, e.reference) {
         Some(i) => set_up_reserver(t, e, i),
-        None => Outcome::Refuse(Refusal::AlreadyThere),
+        None => Err(Refusal::AlreadyThere),
     }
 }
 
@@ -76,14 +74,11 @@ fn set_up_known(t: &[u8], e: Event) -> Outcome
 fn set_up(t: &[u8], e: Event) -> Outcome
     ensures { result ≡ set_up (circuit_at t.now) (circuits t.now) e }
 {
-    let reference = e.reference;
-    if !stands_nowhere(t, reference) {
+    if !stands_nowhere(t, e.reference) {
         return set_up_known(t, e);
     }
-    match choice::choose(t, e.mark) {
-        Some(i) => Outcome::Do(Act::Seize, i),
-        None => Outcome::Refuse(blocked(e)),
-    }
+    let i = choice::choose(t, e.mark).ok_or(blocked(e))?;
+    Ok(Deed::Do(Act::Seize, i))
 }
 
 // Decides a look-ahead.
@@ -91,20 +86,17 @@ fn set_up(t: &[u8], e: Event) -> Outcome
 fn look_ahead(t: &[u8], e: Event) -> Outcome
     ensures { result ≡ look_ahead (circuit_at t.now) (circuits t.now) e }
 {
-    let reference = e.reference;
     if e.lfb != parameter::LFB_ALLOWED {
-        return Outcome::Refuse(Refusal::NotAllowed);
+        return Err(Refusal::NotAllowed);
     }
     if e.mark.level.routine() {
-        return Outcome::Refuse(Refusal::ByRoutine);
+        return Err(Refusal::ByRoutine);
     }
-    if !stands_nowhere(t, reference) {
-        return Outcome::Refuse(Refusal::AlreadyThere);
+    if !stands_nowhere(t, e.reference) {
+        return Err(Refusal::AlreadyThere);
     }
-    match choice::choose(t, e.mark) {
-        Some(i) => Outcome::Do(Act::Reserve, i),
-        None => Outcome::Refuse(Refusal::NoCircuitToReserve),
-    }
+    let i = choice::choose(t, e.mark).ok_or(Refusal::NoCircuitToReserve)?;
+    Ok(Deed::Do(Act::Reserve, i))
 }
 
 // Decides an event that does an act on the circuit that its call holds.
@@ -112,11 +104,8 @@ fn look_ahead(t: &[u8], e: Event) -> Outcome
 fn on_holder(t: &[u8], e: Event, a: Act) -> Outcome
     ensures { result ≡ on_holder (circuit_at t.now) (circuits t.now) a e }
 {
-    let reference = e.reference;
-    match choice::held_by(t, reference) {
-        Some(i) => Outcome::Do(a, i),
-        None => Outcome::Refuse(Refusal::NotThere),
-    }
+    let i = choice::held_by(t, e.reference).ok_or(Refusal::NotThere)?;
+    Ok(Deed::Do(a, i))
 }
 
 // Decides a cancel.
@@ -124,11 +113,8 @@ fn on_holder(t: &[u8], e: Event, a: Act) -> Outcome
 fn cancel(t: &[u8], e: Event) -> Outcome
     ensures { result ≡ cancel (circuit_at t.now) (circuits t.now) e }
 {
-    let reference = e.reference;
-    match choice::reserved_by(t, reference) {
-        Some(i) => Outcome::Do(Act::Cancel, i),
-        None => Outcome::Refuse(Refusal::NotThere),
-    }
+    let i = choice::reserved_by(t, e.reference).ok_or(Refusal::NotThere)?;
+    Ok(Deed::Do(Act::Cancel, i))
 }
 
 // Decides a well-formed event over a valid table, by the kind of the event.
@@ -136,15 +122,15 @@ fn cancel(t: &[u8], e: Event) -> Outcome
 fn decision(t: &[u8], e: Event) -> Outcome
     ensures { result ≡ rule.decision (circuit_at t.now) (circuits t.now) e }
 {
-    let kind = e.kind;
-    match kind {
-        1 => set_up(t, e),
-        2 => on_holder(t, e, Act::Release),
-        3 => look_ahead(t, e),
-        4 => cancel(t, e),
-        6 => on_holder(t, e, Act::Unmark),
-        7 => on_holder(t, e, Act::Answered),
-        _ => Outcome::Clock,
+    match Kind::of(e.kind) {
+        Some(Kind::SetUp) => set_up(t, e),
+        Some(Kind::Release) => on_holder(t, e, Act::Release),
+        Some(Kind::LookAhead) => look_ahead(t, e),
+        Some(Kind::Cancel) => cancel(t, e),
+        Some(Kind::NoService) => on_holder(t, e, Act::Unmark),
+        Some(Kind::Answered) => on_holder(t, e, Act::Answered),
+        Some(Kind::Clock) => Ok(Deed::Clock),
+        None => Ok(Deed::Clock),
     }
 }
 
@@ -156,12 +142,11 @@ pub fn outcome_of(t: &[u8], e: Event, verdict: Verdict) -> Outcome
     ensures outcome { result ≡ outcome_of records t.now e }
     ensures ready { Ready t.now result }
 {
-    if e.well_formed() {
-        match verdict {
-            Verdict::Valid => decision(t, e),
-            Verdict::Fault(r, i) => Outcome::Refuse(Refusal::BadRecord(r, i as u16)),
-        }
-    } else {
-        Outcome::Refuse(Refusal::Malformed)
+    if !e.well_formed() {
+        return Err(Refusal::Malformed);
+    }
+    match verdict {
+        Ok(()) => decision(t, e),
+        Err(fault) => Err(Refusal::BadRecord(fault.reason, fault.at as u16)),
     }
 }

@@ -7,10 +7,11 @@ ghost use Rattle.rules.specs.Circuit.{overdue, made};
 ghost use Rattle.rules.specs.Run.{sweep_to};
 ghost use Rattle.rules.specs.Run as run;
 ghost use Rattle.rules.specs.Records.{circuits, circuit_at, put_circuit, records};
+ghost use Rattle.rules.specs.Outcome.{does};
 ghost use Rattle.rules.specs.Ready.{Ready};
 
 use rules::event::Event;
-use rules::outcome::{Act, Outcome};
+use rules::outcome::{Act, Deed, Outcome};
 
 // Makes circuit i anew by an act, and writes it whole.
 fn renew(t: &mut [u8], e: Event, a: Act, i: usize)
@@ -24,7 +25,7 @@ fn renew(t: &mut [u8], e: Event, a: Act, i: usize)
 // Carries out an act on circuit i, whose record is in order: an act that changes both parts writes the circuit whole, any
 // other only the part that it changes.
 fn act(t: &mut [u8], e: Event, a: Act, i: usize)
-    requires { Ready t.old (Outcome.Do a i) }
+    requires { Ready t.old (does a i) }
     ensures { t.new ≡ put_circuit t.old i (made e a (circuit_at t.old i)) }
 {
     let c = table::circuit_at(t, i).made(e, a);
@@ -70,8 +71,8 @@ pub fn effect(t: &mut [u8], e: Event, o: Outcome)
     ensures { t.new ≡ run.effect records t.old e o }
 {
     match o {
-        Outcome::Refuse(_) => {}
-        Outcome::Do(a, i) => act(t, e, a, i),
-        Outcome::Clock => sweep(t, e),
+        Err(_) => {}
+        Ok(Deed::Do(a, i)) => act(t, e, a, i),
+        Ok(Deed::Clock) => sweep(t, e),
     }
 }

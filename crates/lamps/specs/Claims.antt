@@ -1,7 +1,6 @@
 -- This is 01, "Lamp map": the lowest lit lamp, if there is one, is the circuit that a search takes; and 02, L2, of the lamp map.
-use Rattle.std.specs.Prelude.{ℕ, ◌<◌, ◌≡◌, false, List}
+use Rattle.std.specs.Prelude.{ℕ, ◌<◌, ◌≡◌, false, List, Some, None}
 use Rattle.rules.specs.declared.mark.Mark.{Mark}
-use Rattle.std.specs.Prelude.{Some, None}
 use Rattle.rules.specs.Circuit.{free}
 use Rattle.rules.specs.Choice.{choice}
 use Rattle.rules.specs.Records.{circuit_at, circuits, checked}

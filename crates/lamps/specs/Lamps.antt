@@ -1,8 +1,7 @@
 -- This is 01, "Lamp map", with the record of 02, L2: four words of 64 lamps, lit where free, and the number lit.
-use Rattle.std.specs.Prelude.{ℕ, zero, suc, ◌+◌, ◌*◌, ◌/◌, ◌%◌, Bool, cond, ◌&&◌, List, [], ◌∷◌, get_or, replicate, eqb, ltb}
+use Rattle.std.specs.Prelude.{ℕ, zero, suc, ◌+◌, ◌*◌, ◌/◌, ◌%◌, Bool, cond, ◌&&◌, List, [], ◌∷◌, get_or, replicate, eqb, ltb, Option}
 use Rattle.octets.specs.Bit.{bit}
 use Rattle.rules.specs.declared.circuit.Circuit.{Circuit}
-use Rattle.std.specs.Prelude.{Option}
 use Rattle.rules.specs.declared.verdict.Check.{Check}
 use Rattle.rules.specs.Search.{count_to, first_to}
 use Rattle.rules.specs.Circuit.{free}

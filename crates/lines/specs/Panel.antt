@@ -1,7 +1,5 @@
 -- The lamp map on a terminal is four rows of 64 lamps, then the number lit and the first lamp lit.
-use Rattle.std.specs.Prelude.{ℕ, zero, suc, Bool, cond, List, [], ◌++◌, get_or}
-use Rattle.std.specs.Prelude.{Option}
-use Rattle.std.specs.Prelude.{Some, None}
+use Rattle.std.specs.Prelude.{ℕ, zero, suc, Bool, cond, List, [], ◌++◌, get_or, Option, Some, None}
 use Rattle.octets.specs.Bit.{bit}
 use Rattle.lines.specs.Text.{letters, decimal}
 

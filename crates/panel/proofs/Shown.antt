@@ -5,8 +5,7 @@ use mathlib.Core.Bool.{Bool, true≢false}
 use native.Mathlib.Omega.{arith}
 use lib.ListN.{get_or}
 use Rattle.octets.specs.Bit.{bit}
-use Rattle.std.specs.Prelude.{Option}
-use Rattle.std.specs.Prelude.{Some, None}
+use Rattle.std.specs.Prelude.{Option, Some, None}
 use Rattle.lamps.specs.declared.Lamps.{Lamps}
 use Rattle.lamps.specs.Lamps.{lit_at, four_words, lowest_in, lamp_map}
 use Rattle.lamps.proofs.Shown.{lamp_in_lem}

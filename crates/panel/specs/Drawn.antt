@@ -1,7 +1,6 @@
 -- The panel of a table is its lamp map, drawn.
-use Rattle.std.specs.Prelude.{ℕ, ◌+◌, ◌*◌, ◌<◌, ◌≡◌, true, List, get_or}
+use Rattle.std.specs.Prelude.{ℕ, ◌+◌, ◌*◌, ◌<◌, ◌≡◌, true, List, get_or, Some}
 use Rattle.rules.specs.declared.mark.Mark.{Mark}
-use Rattle.std.specs.Prelude.{Some}
 use Rattle.rules.specs.Circuit.{free}
 use Rattle.rules.specs.Choice.{choice}
 use Rattle.rules.specs.Records.{circuit_at, circuits, check_number}

@@ -17,8 +17,7 @@ use Rattle.octets.proofs.Sames.{same_true}
 use Rattle.octets.proofs.Spans.{grow}
 use Rattle.rules.specs.declared.part.Part.{Part}
 use Rattle.rules.specs.declared.circuit.Circuit.{Circuit}
-use Rattle.std.specs.Prelude.{Option}
-use Rattle.std.specs.Prelude.{Some, None}
+use Rattle.std.specs.Prelude.{Option, Some, None}
 use Rattle.rules.specs.Circuit.{is_of}
 use Rattle.rules.specs.Search.{or_else, first_to, found}
 use Rattle.rules.specs.Valid.{part_numbered, clash, repeated}

@@ -8,8 +8,7 @@ use lib.Dec.{ltb}
 use borrow.Author.Tests.{ltb-true, ltb-false, le-leb, lt-ltb}
 use Rattle.octets.proofs.Tests.{and_both, and_right, by_so}
 use Rattle.rules.specs.declared.circuit.Circuit.{Circuit}
-use Rattle.std.specs.Prelude.{Option}
-use Rattle.std.specs.Prelude.{Some, None}
+use Rattle.std.specs.Prelude.{Option, Some, None}
 use Rattle.rules.specs.Search.{first_to, found}
 use Rattle.rules.specs.Valid.{part_numbered, repeated}
 use Rattle.rules.proofs.Searches.{FirstIs, first_is, first_of, nothing-found}

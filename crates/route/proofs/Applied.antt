@@ -5,7 +5,7 @@ use mathlib.Core.List.{List}
 use Rattle.octets.specs.Span.{put}
 use Rattle.rules.specs.declared.event.Event.{Event}
 use Rattle.rules.specs.declared.answer.Answer.{Answer}
-use Rattle.rules.specs.declared.outcome.Outcome.{Outcome}
+use Rattle.rules.specs.Outcome.{Outcome}
 use Rattle.rules.specs.Answer.{answer_of}
 use Rattle.rules.specs.Run.{outcome_of, effect, after, answered, answer_record}
 use Rattle.rules.specs.Records.{circuit_at, event_at, answer_octets, records, circuits}

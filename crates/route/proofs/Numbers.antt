@@ -7,8 +7,9 @@ use native.Mathlib.Omega.{arith}
 use Rattle.rules.specs.declared.circuit.Circuit.{Circuit}
 use Rattle.rules.specs.declared.event.Event.{Event}
 use Rattle.rules.specs.declared.outcome.Act.TheVariants.{Seize, Reserve, Release, Cancel, Unmark, Answered}
-use Rattle.rules.specs.declared.outcome.Outcome.{Outcome}
-use Rattle.rules.specs.declared.outcome.Outcome.TheVariants.{Refuse, Do, Clock}
+use Rattle.rules.specs.Outcome.{Outcome, does}
+use Rattle.std.specs.Prelude.{Ok, Err}
+use Rattle.rules.specs.declared.outcome.Deed.TheVariants.{Do, Clock}
 use Rattle.rules.specs.Answer.{anothers, answer_of}
 use Rattle.rules.specs.Layout.{Layout}
 use Rattle.rules.specs.Run.{outcome_of, answered}
@@ -22,14 +23,14 @@ either_below false j k p q = q
 module _ (x : ℕ → Circuit) (n : ℕ) (e : Event) where
   outcome_below : (o : Outcome) → (answer_of x n e o).number < 64
   unfolding answer_of
-  outcome_below (Refuse r) = refusal_below r
-  outcome_below (Do Seize i) = either_below ((x i).holder.present || (anothers e.reference (x i).reservation).present) 2 1 (omega arith) (omega arith)
-  outcome_below (Do Reserve i) = either_below (x i).reservation.present 4 3 (omega arith) (omega arith)
-  outcome_below (Do Release i) = omega arith
-  outcome_below (Do Cancel i) = omega arith
-  outcome_below (Do Unmark i) = omega arith
-  outcome_below (Do Answered i) = omega arith
-  outcome_below Clock = omega arith
+  outcome_below (Err r) = refusal_below r
+  outcome_below (Ok (Do Seize i)) = either_below ((x i).holder.present || (anothers e.reference (x i).reservation).present) 2 1 (omega arith) (omega arith)
+  outcome_below (Ok (Do Reserve i)) = either_below (x i).reservation.present 4 3 (omega arith) (omega arith)
+  outcome_below (Ok (Do Release i)) = omega arith
+  outcome_below (Ok (Do Cancel i)) = omega arith
+  outcome_below (Ok (Do Unmark i)) = omega arith
+  outcome_below (Ok (Do Answered i)) = omega arith
+  outcome_below (Ok Clock) = omega arith
 
 pub number_below : {S : Type 0} (L : Layout S) (s : S) (e : List ℕ) → (answered L s e).number < 64
 unfolding answered

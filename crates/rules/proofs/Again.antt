@@ -4,19 +4,19 @@ use Rattle.std.proofs.Common.{◌≡◌, ℕ, ◌<◌, Bool, true, false, cond, 
 use Rattle.octets.proofs.Tests.{by_test}
 use Rattle.rules.specs.declared.circuit.Circuit.{Circuit}
 use Rattle.rules.specs.declared.event.Event.{Event}
-use Rattle.std.specs.Prelude.{Option}
+use Rattle.std.specs.Prelude.{Option, Ok, Err}
 use Rattle.rules.specs.declared.outcome.Act.{Act}
 use Rattle.rules.specs.declared.outcome.Act.TheVariants.{Seize, Reserve, Release, Cancel, Unmark, Answered}
 use Rattle.rules.specs.declared.outcome.Refusal.{Refusal}
 use Rattle.rules.specs.declared.outcome.Refusal.TheVariants.{Malformed, BadRecord, NotThere}
-use Rattle.rules.specs.declared.outcome.Outcome.{Outcome}
-use Rattle.rules.specs.declared.outcome.Outcome.TheVariants.{Refuse, Do, Clock}
-use Rattle.rules.specs.declared.verdict.Verdict.{Verdict}
+use Rattle.rules.specs.Outcome.{Outcome, does}
+use Rattle.rules.specs.declared.outcome.Deed.TheVariants.{Do, Clock}
+use Rattle.rules.specs.Verdict.{Verdict}
 use Rattle.rules.specs.Numbers.{unmarked, now_answered}
 use Rattle.rules.specs.Search.{found}
 use Rattle.rules.specs.Circuit.{is_of, made}
 use Rattle.rules.specs.Choice.{held_by}
-use Rattle.rules.specs.Event.{well_formed}
+use Rattle.rules.specs.Event.{well_formed, kind_of}
 use Rattle.rules.specs.Decision.{unless, on_holder, decision}
 use Rattle.rules.specs.Answer.{anothers, may_lose, no_loser, becomes, answer_of}
 use Rattle.rules.specs.Layout.{Layout}
@@ -35,36 +35,36 @@ either_below true p q = p
 either_below false p q = q
 
 module _ (x : ℕ → Circuit) (n : ℕ) (e : Event) where
-  by_number : (o : Outcome) → ((answer_of x n e o).number ≡ unmarked → o ≡ Do Unmark (answer_of x n e o).detail) × ((answer_of x n e o).number ≡ now_answered → o ≡ Do Answered (answer_of x n e o).detail)
+  by_number : (o : Outcome) → ((answer_of x n e o).number ≡ unmarked → o ≡ does Unmark (answer_of x n e o).detail) × ((answer_of x n e o).number ≡ now_answered → o ≡ does Answered (answer_of x n e o).detail)
   unfolding answer_of
-  by_number (Refuse r) = let high = refusal_high r in (λ q. absurd (omega arith), λ q. absurd (omega arith))
-  by_number (Do Seize i) =
-      let low : (answer_of x n e (Do Seize i)).number < 8 = either_below ((x i).holder.present || (anothers e.reference (x i).reservation).present) (omega arith) (omega arith) in
+  by_number (Err r) = let high = refusal_high r in (λ q. absurd (omega arith), λ q. absurd (omega arith))
+  by_number (Ok (Do Seize i)) =
+      let low : (answer_of x n e (does Seize i)).number < 8 = either_below ((x i).holder.present || (anothers e.reference (x i).reservation).present) (omega arith) (omega arith) in
       (λ q. absurd (omega arith), λ q. absurd (omega arith))
-  by_number (Do Reserve i) =
-      let low : (answer_of x n e (Do Reserve i)).number < 8 = either_below (x i).reservation.present (omega arith) (omega arith) in
+  by_number (Ok (Do Reserve i)) =
+      let low : (answer_of x n e (does Reserve i)).number < 8 = either_below (x i).reservation.present (omega arith) (omega arith) in
       (λ q. absurd (omega arith), λ q. absurd (omega arith))
-  by_number (Do Release i) = (λ q. absurd (omega arith), λ q. absurd (omega arith))
-  by_number (Do Cancel i) = (λ q. absurd (omega arith), λ q. absurd (omega arith))
-  by_number (Do Unmark i) = (λ q. refl, λ q. absurd (omega arith))
-  by_number (Do Answered i) = (λ q. absurd (omega arith), λ q. refl)
-  by_number Clock = (λ q. absurd (omega arith), λ q. absurd (omega arith))
+  by_number (Ok (Do Release i)) = (λ q. absurd (omega arith), λ q. absurd (omega arith))
+  by_number (Ok (Do Cancel i)) = (λ q. absurd (omega arith), λ q. absurd (omega arith))
+  by_number (Ok (Do Unmark i)) = (λ q. refl, λ q. absurd (omega arith))
+  by_number (Ok (Do Answered i)) = (λ q. absurd (omega arith), λ q. refl)
+  by_number (Ok Clock) = (λ q. absurd (omega arith), λ q. absurd (omega arith))
 
 -- ---- an act on the circuit that a call holds, by a kind of event and with an accepting number, that leaves the call there and that a second
 -- event of its kind does over again
 pub record Lasting (a : Act) (kind number : ℕ) : Type 0 where
   pub low : number < 20
-  pub by_accepted : (x : ℕ → Circuit) (n : ℕ) (e : Event) (o : Outcome) → (answer_of x n e o).number ≡ number → o ≡ Do a (answer_of x n e o).detail
+  pub by_accepted : (x : ℕ → Circuit) (n : ℕ) (e : Event) (o : Outcome) → (answer_of x n e o).number ≡ number → o ≡ does a (answer_of x n e o).detail
   pub by_kind : (x : ℕ → Circuit) (n : ℕ) (e : Event) → e.kind ≡ kind → decision x n e ≡ on_holder x n a e
   pub well_formed_lem : (e : Event) → e.kind ≡ kind → e.parameterless ≡ true → well_formed e ≡ true
   pub malformed : (e : Event) → e.kind ≡ kind → e.parameterless ≡ false → well_formed e ≡ false
-  pub own : (x : ℕ → Circuit) (n : ℕ) (e : Event) (i : ℕ) → Grounds x n e (Do a i) → OnOwn x n e kind (Held x n e) i
+  pub own : (x : ℕ → Circuit) (n : ℕ) (e : Event) (i : ℕ) → Grounds x n e (does a i) → OnOwn x n e kind (Held x n e) i
   pub same_call : (e : Event) (c : Circuit) (r : List ℕ) → is_of r (made e a c).holder ≡ is_of r c.holder
   pub once : (e f : Event) (c : Circuit) → made f a (made e a c) ≡ made e a c
-  pub nobody-lost : (x : ℕ → Circuit) (n : ℕ) (e f : Event) (i : ℕ) (c : Circuit) → x i ≡ made e a c → answer_of x n f (Do a i) ≡ no_loser number i
+  pub nobody-lost : (x : ℕ → Circuit) (n : ℕ) (e f : Event) (i : ℕ) (c : Circuit) → x i ≡ made e a c → answer_of x n f (does a i) ≡ no_loser number i
 
 pub no_service_lem : Lasting Unmark 6 unmarked
-unfolding decision well_formed answer_of
+unfolding decision well_formed kind_of answer_of
 no_service_lem =
     record {
       low = omega arith;
@@ -79,7 +79,7 @@ no_service_lem =
     }
 
 pub answered-call : Lasting Answered 7 now_answered
-unfolding decision well_formed answer_of
+unfolding decision well_formed kind_of answer_of
 answered-call =
     record {
       low = omega arith;
@@ -116,18 +116,18 @@ module _ {a : Act} {kind number : ℕ} (K : Lasting a kind number) {S : Type 0} 
   abbrev i : ℕ  -- the circuit that the answer names
   i = (answered L s e).detail
 
-  decided_so : outcome_of L s ev ≡ Do a i
+  decided_so : outcome_of L s ev ≡ does a i
   unfolding answered
   decided_so = K.by_accepted x n ev (outcome_of L s ev) accepted
 
-  not_refused : (r : Refusal) → (answer_of x n ev (Refuse r)).number ≡ number → ⊥
+  not_refused : (r : Refusal) → (answer_of x n ev (Err r)).number ≡ number → ⊥
   unfolding answer_of
   not_refused r q = omega (arith, K.low, refusal_high r)
 
   by_rules : (valid L s ≡ true) × (outcome_of L s ev ≡ decision x n ev)
   unfolding outcome_of valid answered
   by_rules =
-      by_test P (well_formed ev) _ (Refuse Malformed)
+      by_test P (well_formed ev) _ (Err Malformed)
       (λ w. by_verdict P (verdict L s) (decision x n ev) (λ v q. (v, refl)) (λ r j z q. absurd (not_refused (BadRecord r j) q)))
       (λ w q. absurd (not_refused Malformed q)) accepted
     where
@@ -143,7 +143,7 @@ module _ {a : Act} {kind number : ℕ} (K : Lasting a kind number) {S : Type 0} 
     abbrev u : S  -- the table that e leaves
     u = after L s e
 
-    stands : (c : ℕ) → c < n → L.view u c ≡ becomes ev (Do a i) c (x c)
+    stands : (c : ℕ) → c < n → L.view u c ≡ becomes ev (does a i) c (x c)
     stands c l = view-after L W s e by_rules.0 c l ∙ ap (λ (o : Outcome). becomes ev o c (x c)) decided_so
 
     stands-there : L.view u i ≡ made ev a (x i)
@@ -164,10 +164,10 @@ module _ {a : Act} {kind number : ℕ} (K : Lasting a kind number) {S : Type 0} 
       abbrev fv : Event
       fv = L.event f
 
-      decided-again : outcome_of L u fv ≡ Do a i
+      decided-again : outcome_of L u fv ≡ does a i
       unfolding on_holder
       decided-again =
-          let acts : Option ℕ → Outcome = λ h. found h (Do a) (Refuse NotThere) in
+          let acts : Option ℕ → Outcome = λ h. found h (does a) (Err NotThere) in
           by_holder K L u fv (after-valid L W s e by_rules.0) again zero
           ∙ ap (λ (r : List ℕ). acts (held_by (L.view u) (L.count u) r)) call
           ∙ ap acts (same_held ev.reference)

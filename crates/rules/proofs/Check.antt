@@ -3,8 +3,8 @@ use Rattle.std.proofs.Common.{◌≡◌, ℕ, ◌/◌, ◌%◌, ◌≤◌, Bool,
 use Rattle.octets.proofs.Tests.{halves}
 use Rattle.rules.specs.declared.verdict.Check.{Check}
 use Rattle.rules.specs.declared.verdict.Reason.{Reason}
-use Rattle.rules.specs.declared.verdict.Verdict.{Verdict}
-use Rattle.rules.specs.declared.verdict.Verdict.TheVariants.{Valid, Fault}
+use Rattle.rules.specs.Verdict.{Verdict, fault, no_fault}
+use Rattle.std.specs.Prelude.{Ok, Err}
 use Rattle.rules.specs.Numbers.{done, wrong_length}
 use Rattle.rules.specs.Answer.{no_detail}
 use Rattle.rules.specs.Valid.{is_valid, check_of, verdict, valid}
@@ -26,13 +26,13 @@ abbrev pub check_by : Bool → Verdict → Check
 check_by b v = cond b (check_of v) (record { number = wrong_length; detail = no_detail })
 
 -- what holds at a wrong length, of a valid table, and of each first fault, holds of what the check gives
-pub by_check : (P : Check → Type 0) (t : List ℕ) → (table_length (length t) ≡ false → P (check_by false Valid)) → (table_length (length t) ≡ true → verdict records t ≡ Valid → P (check_of Valid)) → (table_length (length t) ≡ true → (r : Reason) (i : ℕ) → verdict records t ≡ Fault r i → P (check_of (Fault r i))) → P (checked t)
+pub by_check : (P : Check → Type 0) (t : List ℕ) → (table_length (length t) ≡ false → P (check_by false no_fault)) → (table_length (length t) ≡ true → verdict records t ≡ no_fault → P (check_of no_fault)) → (table_length (length t) ≡ true → (r : Reason) (i : ℕ) → verdict records t ≡ fault r i → P (check_of (fault r i))) → P (checked t)
 unfolding checked
 by_check P t f g h = go (table_length (length t)) (verdict records t) refl refl
   where
     go : (b : Bool) (v : Verdict) → table_length (length t) ≡ b → verdict records t ≡ v → P (check_by b v)
-    go true Valid l e = g l e
-    go true (Fault r i) l e = h l r i e
+    go true (Ok u) l e = g l e
+    go true (Err flaw) l e = h l flaw.reason flaw.at e
     go false v l e = f l
 
 -- a valid table of right length is one of which the check gives 0, and such a table alone
@@ -60,5 +60,5 @@ unfolding records
 detail-fits t most = go (verdict records t) refl
   where
     go : (v : Verdict) → verdict records t ≡ v → (check_of v).detail ≤ no_detail
-    go Valid e = omega arith
-    go (Fault r i) e = let there = fault-there records t r i e in omega arith
+    go (Ok u) e = omega arith
+    go (Err flaw) e = let there = fault-there records t flaw.reason flaw.at e in omega arith

@@ -1,22 +1,25 @@
 -- Why an outcome is decided: by which kind of event, and what stood on the circuit. No other proof goes through the kinds.
-use Rattle.std.proofs.Common.{◌≡◌, ℕ, ◌<◌, Bool, true, false, cond, not, ◌&&◌, eqb, leb, ◌⊎◌, sym, refl, ap, ◌∙◌, inl, inr, ⊎_elim, true≢false, eqb-true}
-use Rattle.octets.proofs.Tests.{by_so, by_test}
+use Rattle.std.proofs.Common.{◌≡◌, ℕ, ◌<◌, Bool, true, false, not, ◌&&◌, eqb, leb, ◌⊎◌, sym, refl, inl, inr, ⊎_elim, true≢false}
+use Rattle.octets.proofs.Tests.{by_test}
 use Rattle.rules.specs.declared.circuit.Circuit.{Circuit}
 use Rattle.rules.specs.declared.event.Event.{Event}
-use Rattle.std.specs.Prelude.{Option}
-use Rattle.std.specs.Prelude.{Some, None}
+use Rattle.rules.specs.declared.event.Kind.{Kind}
+use Rattle.std.specs.Prelude.{Option, Some, None, Ok, Err}
 use Rattle.rules.specs.declared.outcome.Act.{Act}
 use Rattle.rules.specs.declared.outcome.Act.TheVariants.{Seize, Reserve, Release, Cancel, Unmark, Answered}
 use Rattle.rules.specs.declared.outcome.Refusal.{Refusal}
 use Rattle.rules.specs.declared.outcome.Refusal.TheVariants.{Malformed, NotAllowed, ByRoutine, AlreadyThere, MarkDiffers, NotThere, NoCircuitForRoutine, NoCircuit, NoCircuitToReserve}
-use Rattle.rules.specs.declared.outcome.Outcome.{Outcome}
-use Rattle.rules.specs.declared.outcome.Outcome.TheVariants.{Refuse, Do, Clock}
+use Rattle.rules.specs.Outcome.{Outcome, does}
+use Rattle.rules.specs.declared.outcome.Deed.TheVariants.{Do, Clock}
 use Rattle.rules.specs.Fields.{allowed}
 use Rattle.rules.specs.Search.{found}
 use Rattle.rules.specs.Circuit.{is_routine, same_mark, is_of, free, takeable}
 use Rattle.rules.specs.Choice.{held_by, reserved_by, choice}
-use Rattle.rules.specs.Event.{marked, well_formed}
+use Rattle.rules.specs.Event.{marked, kind_of, formed, well_formed}
+use Rattle.rules.specs.declared.event.Kind.TheVariants as kind
 use Rattle.rules.specs.Decision.{stands_nowhere, on_reservation, blocked, set_up, look_ahead, on_holder, cancel, decision}
+use Rattle.rules.specs.Decision as rule
+use Rattle.rules.proofs.ByKind.{Says, kind-says}
 use Rattle.rules.specs.Numbers.{refusal_number}
 use Rattle.rules.specs.Answer.{no_detail, refusal_detail}
 use Rattle.rules.specs.Layout.{Layout}
@@ -25,11 +28,6 @@ use Rattle.rules.specs.Run.{outcome_of}
 use Rattle.rules.proofs.Faults.{by_verdict}
 use Rattle.rules.proofs.Searches.{by_first}
 use Rattle.rules.proofs.Choice.{ChoiceIs, choice_is}
-
--- two nests of `cond` with the same tests: where the one holds, the other has P
-by_kind : (P : Outcome → Type 0) (b v w : Bool) (p q : Outcome) → (b ≡ true → v ≡ true → P p) → (w ≡ true → P q) → cond b v w ≡ true → P (cond b p q)
-by_kind P true v w p q f g h = f refl h
-by_kind P false v w p q f g h = g h
 
 -- a refusal by the rules is for no record: it is none of 41 to 45, and names none
 abbrev pub ForNoRecord : Refusal → Type 0
@@ -76,14 +74,14 @@ module _ (x : ℕ → Circuit) (n : ℕ) (e : Event) where
     pub own : stands i ≡ true
 
   abbrev pub GroundsOr : (Refusal → Type 0) → Outcome → Type 0  -- P is what is said of a refusal
-  GroundsOr P (Refuse r) = P r
-  GroundsOr P (Do Seize i) = Seizes i
-  GroundsOr P (Do Reserve i) = Reserves i
-  GroundsOr P (Do Release i) = OnOwn 2 Held i
-  GroundsOr P (Do Cancel i) = OnOwn 4 Reserved i
-  GroundsOr P (Do Unmark i) = OnOwn 6 Held i
-  GroundsOr P (Do Answered i) = OnOwn 7 Held i
-  GroundsOr P Clock = e.kind ≡ 5
+  GroundsOr P (Err r) = P r
+  GroundsOr P (Ok (Do Seize i)) = Seizes i
+  GroundsOr P (Ok (Do Reserve i)) = Reserves i
+  GroundsOr P (Ok (Do Release i)) = OnOwn 2 Held i
+  GroundsOr P (Ok (Do Cancel i)) = OnOwn 4 Reserved i
+  GroundsOr P (Ok (Do Unmark i)) = OnOwn 6 Held i
+  GroundsOr P (Ok (Do Answered i)) = OnOwn 7 Held i
+  GroundsOr P (Ok Clock) = e.kind ≡ 5
 
   abbrev pub Grounds : Outcome → Type 0  -- a refusal needs none: it changes nothing
   Grounds = GroundsOr (λ r. Unit {0})
@@ -109,49 +107,54 @@ module _ (x : ℕ → Circuit) (n : ℕ) (e : Event) where
     by_set_up : e.kind ≡ 1 → marked e ≡ true → Gives (set_up x n e)
     unfolding set_up held_by reserved_by on_reservation
     by_set_up k m =
-        by_first Gives Held n (λ i. Refuse AlreadyThere) _ (λ i l h. refused AlreadyThere (refl, refl))
+        by_first Gives Held n (λ i. Err AlreadyThere) _ (λ i l h. refused AlreadyThere (refl, refl))
         (λ a.
         by_first Gives Reserved n _ _
         (λ i l h.
-        by_test Gives (AsReserved i) (Do Seize i) (Refuse MarkDiffers) (λ q. record { set_up_lem = k; well_marked = m; there = l; given = inl (h, q) })
+        by_test Gives (AsReserved i) (does Seize i) (Err MarkDiffers) (λ q. record { set_up_lem = k; well_marked = m; there = l; given = inl (h, q) })
         (λ q. refused MarkDiffers (refl, refl)))
-        (λ b. by_choice (Do Seize) (Refuse (blocked e)) (λ i l o. record { set_up_lem = k; well_marked = m; there = l; given = inr (o, (a, b)) })
+        (λ b. by_choice (does Seize) (Err (blocked e)) (λ i l o. record { set_up_lem = k; well_marked = m; there = l; given = inr (o, (a, b)) })
         (refused (blocked e) (blocked_for_none e))))
 
     by_look_ahead : e.kind ≡ 3 → marked e ≡ true → Gives (look_ahead x n e)
     unfolding look_ahead
     by_look_ahead k m =
-        by_test Gives (eqb e.lfb allowed) _ (Refuse NotAllowed)
+        by_test Gives (eqb e.lfb allowed) _ (Err NotAllowed)
         (λ q.
-        by_test Gives (not (is_routine e.mark.level)) _ (Refuse ByRoutine)
+        by_test Gives (not (is_routine e.mark.level)) _ (Err ByRoutine)
         (λ q.
-        by_test Gives (stands_nowhere x n e.reference) _ (Refuse AlreadyThere)
-        (λ s. by_choice (Do Reserve) (Refuse NoCircuitToReserve) (λ i l o. record { look_ahead_lem = k; well_marked = m; there = l; given = (o, nowhere s) })
+        by_test Gives (stands_nowhere x n e.reference) _ (Err AlreadyThere)
+        (λ s. by_choice (does Reserve) (Err NoCircuitToReserve) (λ i l o. record { look_ahead_lem = k; well_marked = m; there = l; given = (o, nowhere s) })
         (refused NoCircuitToReserve (refl, refl)))
         (λ s. refused AlreadyThere (refl, refl)))
         (λ q. refused ByRoutine (refl, refl)))
         (λ q. refused NotAllowed (refl, refl))
 
-    by_holder : (k : ℕ) (a : Act) → ((i : ℕ) → OnOwn k Held i → Gives (Do a i)) → e.kind ≡ k → Gives (on_holder x n a e)
+    by_holder : (k : ℕ) (a : Act) → ((i : ℕ) → OnOwn k Held i → Gives (does a i)) → e.kind ≡ k → Gives (on_holder x n a e)
     unfolding on_holder held_by
-    by_holder k a g q = by_first Gives Held n (Do a) (Refuse NotThere) (λ i l h. g i (record { kind = q; there = l; own = h })) (λ b. refused NotThere (refl, refl))
+    by_holder k a g q = by_first Gives Held n (does a) (Err NotThere) (λ i l h. g i (record { kind = q; there = l; own = h })) (λ b. refused NotThere (refl, refl))
+
+    -- what is decided of each kind has its grounds
+    by_kind : (k : Option Kind) → Says e.kind k → formed k e ≡ true → Gives (rule.decided x n k e)
+    unfolding cancel reserved_by
+    by_kind (Some kind.SetUp) q w = by_set_up q w
+    by_kind (Some kind.Release) q w = by_holder 2 Release (λ i g. g) q
+    by_kind (Some kind.LookAhead) q w = by_look_ahead q w
+    by_kind (Some kind.Cancel) q w =
+        by_first Gives Reserved n (does Cancel) (Err NotThere) (λ i l h. record { kind = q; there = l; own = h }) (λ b. refused NotThere (refl, refl))
+    by_kind (Some kind.Clock) q w = q
+    by_kind (Some kind.NoService) q w = by_holder 6 Unmark (λ i g. g) q
+    by_kind (Some kind.Answered) q w = by_holder 7 Answered (λ i g. g) q
+    by_kind None q w = absurd (true≢false (sym w))
 
     pub grounds : well_formed e ≡ true → Gives (decision x n e)
-    unfolding well_formed decision cancel reserved_by
-    grounds =
-        by_kind Gives (eqb e.kind 1) (marked e) _ (set_up x n e) _ (λ k m. by_set_up (eqb-true e.kind 1 k) m)
-        (by_kind Gives (eqb e.kind 2) e.parameterless _ (on_holder x n Release e) _ (λ k m. by_holder 2 Release (λ i g. g) (eqb-true e.kind 2 k))
-        (by_kind Gives (eqb e.kind 3) (marked e) _ (look_ahead x n e) _ (λ k m. by_look_ahead (eqb-true e.kind 3 k) m)
-        (by_kind Gives (eqb e.kind 4) e.parameterless _ (cancel x n e) _
-        (λ k m. by_first Gives Reserved n (Do Cancel) (Refuse NotThere) (λ i l h. record { kind = eqb-true e.kind 4 k; there = l; own = h }) (λ b. refused NotThere (refl, refl)))
-        (by_kind Gives (eqb e.kind 6) e.parameterless _ (on_holder x n Unmark e) _ (λ k m. by_holder 6 Unmark (λ i g. g) (eqb-true e.kind 6 k))
-        (by_kind Gives (eqb e.kind 7) e.parameterless _ (on_holder x n Answered e) Clock (λ k m. by_holder 7 Answered (λ i g. g) (eqb-true e.kind 7 k))
-        (λ w. by_so (eqb e.kind 5) (eqb-true e.kind 5) (λ k. absurd (true≢false (sym w ∙ ap (λ (b : Bool). cond b (e.parameterless && e.referenceless) false) k)))))))))
+    unfolding well_formed decision
+    grounds = by_kind (kind_of e.kind) (kind-says e.kind)
 
 pub decided : {S : Type 0} (L : Layout S) (s : S) (e : Event) → Grounds (L.view s) (L.count s) e (outcome_of L s e)
 unfolding outcome_of
 decided L s e =
     let P = Grounds (L.view s) (L.count s) e in
-    by_test P (well_formed e) _ (Refuse Malformed)
+    by_test P (well_formed e) _ (Err Malformed)
     (λ w. by_verdict P (verdict L s) (decision (L.view s) (L.count s) e) (λ v. grounds (L.view s) (L.count s) e (λ r. Unit {0}) (λ r f. tt) w) (λ r i f. tt))
     (λ w. tt)

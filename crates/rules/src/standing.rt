@@ -15,18 +15,12 @@ pub struct Standing {
     pub mark: Mark,
 }
 
-fn wide(level: u8) -> usize
-    ensures { (result ≡ level) × (result < 256) }
-{
-    level as usize
-}
-
 impl Standing {
     // Tells whether a circuit with these flags is free.
     pub fn free(held: bool, reserved: bool) -> bool
         ensures { result ≡ not held && not reserved }
     {
-        if held { false } else { !reserved }
+        !held && !reserved
     }
 
     // Tells whether a circuit may be lost by its holder, who stands under this level, if it is held: one under no precedence keeps it, and so
@@ -34,17 +28,14 @@ impl Standing {
     pub fn preemptable(held: bool, level: Level, ringing: bool) -> bool
         ensures { result ≡ not held || (level_ok level.0 && not ringing) }
     {
-        if !held {
-            return true;
-        }
-        if level.known() { !ringing } else { false }
+        !held || level.known() && !ringing
     }
 
     // Says how gladly a call takes a circuit under this level, if it is takeable: the level number counts first, then that there is no holder.
     pub fn worth(held: bool, level: Level) -> usize
         ensures { result ≡ 1 + 2 * level.0 + (if held then 0 else 1) }
     {
-        let number = wide(level.0);
+        let number = usize::from(level.0);
         if held { 1 + 2 * number } else { 2 + 2 * number }
     }
 
@@ -58,13 +49,8 @@ impl Standing {
     pub fn takeable(self, by: Mark) -> bool
         ensures { result ≡ not (not self.held && not self.reserved) && (self.preemptable && outranks by self.mark) }
     {
-        if Standing::free(self.held, self.reserved) {
-            return false;
-        }
-        if self.preemptable {
-            by.outranks(self.standing())
-        } else {
-            false
-        }
+        !Standing::free(self.held, self.reserved)
+            && self.preemptable
+            && by.outranks(self.standing())
     }
 }

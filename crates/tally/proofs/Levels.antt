@@ -12,8 +12,9 @@ use Rattle.octets.proofs.Tests.{and_left, and_right, by_so}
 use Rattle.rules.specs.declared.circuit.Circuit.{Circuit}
 use Rattle.rules.specs.declared.event.Event.{Event}
 use Rattle.rules.specs.declared.outcome.Act.TheVariants.{Seize, Reserve, Release, Cancel, Unmark, Answered}
-use Rattle.rules.specs.declared.outcome.Outcome.{Outcome}
-use Rattle.rules.specs.declared.outcome.Outcome.TheVariants.{Refuse, Do, Clock}
+use Rattle.rules.specs.Outcome.{Outcome, does}
+use Rattle.std.specs.Prelude.{Ok, Err}
+use Rattle.rules.specs.declared.outcome.Deed.TheVariants.{Do, Clock}
 use Rattle.rules.specs.Fields.{level_ok, lfb_ok, decimal, parameter_ok}
 use Rattle.rules.specs.Answer.{answer_of}
 use Rattle.rules.specs.Valid.{pair_ok, valid}
@@ -47,14 +48,14 @@ module _ (x : ℕ → Circuit) (n : ℕ) (e : Event) (pairs : (c : ℕ) → c < 
 
   lost-taken : (o : Outcome) → Grounds x n e o → let a = answer_of x n e o in a.call.present ≡ true → Taken e.mark.level.0 a.call.mark.level.0
   unfolding answer_of
-  lost-taken (Refuse r) h q = absurd (true≢false (sym q))
-  lost-taken (Do Seize i) h q = from-holder i h q
-  lost-taken (Do Reserve i) h q = absurd (true≢false (sym q))
-  lost-taken (Do Release i) h q = absurd (true≢false (sym q))
-  lost-taken (Do Cancel i) h q = absurd (true≢false (sym q))
-  lost-taken (Do Unmark i) h q = absurd (true≢false (sym q))
-  lost-taken (Do Answered i) h q = absurd (true≢false (sym q))
-  lost-taken Clock h q = absurd (true≢false (sym q))
+  lost-taken (Err r) h q = absurd (true≢false (sym q))
+  lost-taken (Ok (Do Seize i)) h q = from-holder i h q
+  lost-taken (Ok (Do Reserve i)) h q = absurd (true≢false (sym q))
+  lost-taken (Ok (Do Release i)) h q = absurd (true≢false (sym q))
+  lost-taken (Ok (Do Cancel i)) h q = absurd (true≢false (sym q))
+  lost-taken (Ok (Do Unmark i)) h q = absurd (true≢false (sym q))
+  lost-taken (Ok (Do Answered i)) h q = absurd (true≢false (sym q))
+  lost-taken (Ok Clock) h q = absurd (true≢false (sym q))
 
 pub lost-levels : {S : Type 0} (L : Layout S) (s : S) (e : List ℕ) → let a = answered L s e in a.call.present ≡ true → Taken (L.event e).mark.level.0 a.call.mark.level.0
 unfolding answered answer_of

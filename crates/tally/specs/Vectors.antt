@@ -4,7 +4,7 @@ use mathlib.Core.List.{List, [], ◌∷◌, ◌++◌, flatten}
 use Rattle.rules.specs.Fields.{decimal, parameter_ok, point_code_ok}
 use Rattle.rules.specs.Circuit.{takeable, worth, rank}
 use Rattle.rules.specs.Choice.{held_by, reserved_by, choice}
-use Rattle.rules.specs.Event.{well_formed}
+use Rattle.rules.specs.Event.{well_formed, kind_of}
 use Rattle.rules.specs.Decision.{on_reservation, set_up, look_ahead, on_holder, cancel, decision}
 use Rattle.rules.specs.Answer.{answer_of}
 use Rattle.rules.specs.Valid.{levels_ok, fields_ok, pair_ok, repeated, record_verdict, verdict, valid}
@@ -37,6 +37,6 @@ expected =
 pub counted : figures_totals (empty_table 2) (flatten paper.listing) (replicate 160 0) (replicate place.figures 0) ≡ expected
 unfolding flatten immediate priority event sets_up releases is_answered looks_ahead ticks paper.listing answered after effect outcome_of decision set_up
     look_ahead on_holder cancel on_reservation choice held_by reserved_by rank worth takeable answer_of valid verdict record_verdict repeated
-    levels_ok fields_ok pair_ok decimal point_code_ok well_formed parameter_ok records put_circuit flags_at blank_at table_length list_length
+    levels_ok fields_ok pair_ok decimal point_code_ok well_formed kind_of parameter_ok records put_circuit flags_at blank_at table_length list_length
     events_in list_lengths adds holders list_adds has_room figures_lengths is_added figures_totals
 counted = refl

@@ -8,8 +8,8 @@ use lib.Dec.{eqb}
 use Rattle.octets.proofs.Tests.{if_ne}
 use Rattle.rules.specs.declared.verdict.Reason.{Reason}
 use Rattle.rules.specs.declared.verdict.Reason.TheVariants.{FlagOrLevel, DigitOrPointCode, NotZero, NotAbove, Repeated}
-use Rattle.rules.specs.declared.verdict.Verdict.{Verdict}
-use Rattle.rules.specs.declared.verdict.Verdict.TheVariants.{Valid, Fault}
+use Rattle.rules.specs.Verdict.{Verdict, fault, no_fault}
+use Rattle.std.specs.Prelude.{Ok, Err}
 use Rattle.rules.specs.Answer.{no_detail}
 use Rattle.rules.specs.Layout.{Layout}
 use Rattle.rules.specs.Valid.{levels_ok, fields_ok, pair_ok, or_fault, is_valid, check_of, record_verdict}
@@ -28,39 +28,39 @@ reason_back Repeated = refl
 -- the code of a fault is not 0; its last digit of eight is the reason's, and the others are the record
 module _ (r : Reason) (i : ℕ) where
   abbrev its : ℕ
-  its = code_of (Fault r i)
+  its = code_of (fault r i)
 
   parts : (its ≢ 0) × (its % 8 ≡ reason_digit r) × (its / 8 ≡ i)
   unfolding code_of
   parts = let w = reason-within r in ((λ e. omega arith), omega arith, omega arith)
 
 abbrev pub verdict_of : ℕ → Verdict  -- the verdict whose code this is
-verdict_of k = cond (eqb k 0) Valid (Fault (reason_of (k % 8)) (k / 8))
+verdict_of k = cond (eqb k 0) no_fault (fault (reason_of (k % 8)) (k / 8))
 
 -- the digit of a fault is its reason's
-pub digit_is : (r : Reason) (i : ℕ) → reason_digit r ≡ digit_of (Fault r i)
+pub digit_is : (r : Reason) (i : ℕ) → reason_digit r ≡ digit_of (fault r i)
 unfolding digit_of
 digit_is r i = refl
 
 -- a digit is below 8
 pub digit_below : (v : Verdict) → digit_of v < 8
 unfolding digit_of
-digit_below Valid = omega arith
-digit_below (Fault r i) = let w = reason-within r in omega arith
+digit_below (Ok u) = omega arith
+digit_below (Err flaw) = let w = reason-within flaw.reason in omega arith
 
 -- a digit of 0 is that of a valid verdict
 pub digit-zero : (v : Verdict) → digit_of v ≡ 0 → is_valid v ≡ true
 unfolding digit_of
-digit-zero Valid h = refl
-digit-zero (Fault r i) h = absurd (let w = reason-within r in omega arith)
+digit-zero (Ok u) h = refl
+digit-zero (Err flaw) h = absurd (let w = reason-within flaw.reason in omega arith)
 
 pub digit-fault : (v : Verdict) → digit_of v ≢ 0 → is_valid v ≡ false
 unfolding digit_of
-digit-fault Valid h = absurd (h refl)
-digit-fault (Fault r i) h = refl
+digit-fault (Ok u) h = absurd (h refl)
+digit-fault (Err flaw) h = refl
 
 -- of a record that has a fault by itself, the record and the digit are the code
-by_tests : (i : ℕ) (a b c d : Bool) → let v = cond a (Fault FlagOrLevel i) (cond b (Fault DigitOrPointCode i) (cond c (Fault NotZero i) (cond d (Fault NotAbove i) Valid))) in
+by_tests : (i : ℕ) (a b c d : Bool) → let v = cond a (fault FlagOrLevel i) (cond b (fault DigitOrPointCode i) (cond c (fault NotZero i) (cond d (fault NotAbove i) no_fault))) in
     is_valid v ≡ false → 8 * i + digit_of v ≡ code_of v
 unfolding digit_of code_of
 by_tests i true b c d h = refl
@@ -77,16 +77,16 @@ located L s i =
 -- a code gives its verdict back
 pub verdict_back : (v : Verdict) → verdict_of (code_of v) ≡ v
 unfolding code_of
-verdict_back Valid = refl
-verdict_back (Fault r i) =
+verdict_back (Ok u) = refl
+verdict_back (Err flaw) =
     let p = parts r i in
-    sym (if_ne _ _ (its r i) 0 p.0 (ap₂ Fault (sym (reason_back r) ∙ ap reason_of (sym p.1)) (sym p.2)))
+    sym (if_ne _ _ (its r i) 0 p.0 (ap₂ fault (sym (reason_back r) ∙ ap reason_of (sym p.1)) (sym p.2)))
 
 -- what the check gives for a code it gives for its verdict
 pub check_back : (v : Verdict) → check_coded (code_of v) ≡ check_of v
 unfolding code_of
-check_back Valid = refl
-check_back (Fault r i) =
+check_back (Ok u) = refl
+check_back (Err flaw) =
     let p = parts r i in
     let w = reason-within r in
     sym (if_ne _ _ (its r i) 0 p.0 (ap₂ (λ (k d : ℕ). record { number = k; detail = d }) (omega arith) (sym p.2)))
@@ -94,15 +94,15 @@ check_back (Fault r i) =
 -- where the record has room in 16 bits, the code has room in 19
 pub code_below : (v : Verdict) → (check_of v).detail ≤ no_detail → code_of v < 8 * 65536
 unfolding code_of
-code_below Valid h = omega arith
-code_below (Fault r i) h = let w = reason-within r in omega arith
+code_below (Ok u) h = omega arith
+code_below (Err flaw) h = let w = reason-within flaw.reason in omega arith
 
 -- the code of the first of two verdicts that is a fault
 pub first_faulty : (v w : Verdict) → code_of v ≢ 0 → code_of v ≡ code_of (or_fault v w)
 unfolding code_of
-first_faulty Valid w h = absurd (h refl)
-first_faulty (Fault r i) w h = refl
+first_faulty (Ok u) w h = absurd (h refl)
+first_faulty (Err flaw) w h = refl
 
 pub first_sound : (v w : Verdict) → code_of v ≡ 0 → code_of w ≡ code_of (or_fault v w)
-first_sound Valid w h = refl
-first_sound (Fault r i) w h = absurd ((parts r i).0 h)
+first_sound (Ok u) w h = refl
+first_sound (Err flaw) w h = absurd ((parts flaw.reason flaw.at).0 h)

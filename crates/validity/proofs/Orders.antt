@@ -1,4 +1,5 @@
 -- To a record in order no reason applies.
+use Rattle.rules.specs.Verdict.{no_fault}
 use Prim.Native.Nat.{ℕ, ◌+◌, ◌*◌, ◌<◌}
 use mathlib.Core.Path.{◌≡◌, refl, sym, ap, ◌∙◌}
 use mathlib.Core.Bool.{Bool, true, false, cond, ◌&&◌, ◌||◌, not, or-true, true≢false}
@@ -14,7 +15,7 @@ use Rattle.octets.proofs.Spans.{span_at, agree_first, zeros_agree, zeros_all, ze
 use Rattle.octets.proofs.Sames.{same_true}
 use Rattle.rules.specs.declared.part.Part.{Part}
 use Rattle.rules.specs.declared.circuit.Circuit.{Circuit}
-use Rattle.rules.specs.declared.verdict.Verdict.TheVariants.{Valid}
+use Rattle.std.specs.Prelude.{Ok, Err}
 use Rattle.rules.specs.Fields.{level_ok}
 use Rattle.rules.specs.Circuit.{outranks, same_mark, no_precedence, preemptable}
 use Rattle.rules.specs.Valid.{if_present, held_under, levels_ok, fields_ok, pair_ok, record_verdict}
@@ -176,7 +177,7 @@ module _ (t : List ℕ) (i : ℕ) where
       ∙ zeros_then (span t (circuit_size * i) 12) octet30
       ∙ and_both _ _ first (tail.nobody e))
 
-  pub in_order_lem : in_order t i ≡ true → record_verdict records t i ≡ Valid
+  pub in_order_lem : in_order t i ≡ true → record_verdict records t i ≡ no_fault
   unfolding in_order records levels_ok fields_ok flags_at blank_at
   in_order_lem h =
       let first = halves h in

@@ -1,10 +1,9 @@
 -- The code of a verdict is one number for its reason and its record.
-use Rattle.std.specs.Prelude.{ℕ, ◌+◌, ◌-◌, ◌*◌, ◌/◌, ◌%◌, cond, eqb}
+use Rattle.std.specs.Prelude.{ℕ, ◌+◌, ◌-◌, ◌*◌, ◌/◌, ◌%◌, cond, eqb, Ok, Err}
 use Rattle.rules.specs.declared.verdict.Check.{Check}
 use Rattle.rules.specs.declared.verdict.Reason.{Reason}
 use Rattle.rules.specs.declared.verdict.Reason.TheVariants.{FlagOrLevel, DigitOrPointCode, NotZero, NotAbove, Repeated}
-use Rattle.rules.specs.declared.verdict.Verdict.{Verdict}
-use Rattle.rules.specs.declared.verdict.Verdict.TheVariants.{Valid, Fault}
+use Rattle.rules.specs.Verdict.{Verdict, fault}
 use Rattle.rules.specs.Numbers.{done, reason_number}
 use Rattle.rules.specs.Answer.{no_detail}
 
@@ -12,12 +11,12 @@ abbrev pub reason_digit : Reason → ℕ  -- the last digit of a reason's number
 reason_digit r = reason_number r - 40
 
 unfoldable pub digit_of : Verdict → ℕ  -- the digit of a fault's reason, or 0
-digit_of Valid = 0
-digit_of (Fault r i) = reason_digit r
+digit_of (Ok u) = 0
+digit_of (Err flaw) = reason_digit flaw.reason
 
 unfoldable pub code_of : Verdict → ℕ  -- 0 for a valid table, else 8 times the record and the digit of the reason
-code_of Valid = 0
-code_of (Fault r i) = 8 * i + reason_digit r
+code_of (Ok u) = 0
+code_of (Err flaw) = 8 * flaw.at + reason_digit flaw.reason
 
 unfoldable pub reason_of : ℕ → Reason  -- the reason whose number has this last digit
 reason_of d =

@@ -17,7 +17,7 @@ use rules::circuit::Circuit;
 use rules::number;
 use rules::part::{Part, Reference};
 use rules::standing::Standing;
-use rules::verdict::{Check, Reason, Verdict};
+use rules::verdict::{Check, Fault, Reason, Verdict};
 
 // Tells whether record i has no holder, or the holder's level is as it must be: one of the five, or that of no precedence.
 fn holder_level_ok(t: &[u8], i: usize) -> bool
@@ -132,7 +132,7 @@ fn flags_and_levels(t: &[u8], i: usize) -> bool
 fn digit(reason: Reason) -> u64
     ensures { result ≡ reason_digit reason }
 {
-    (reason.number() - 40) as u64
+    u64::from(u8::from(reason) - 40)
 }
 
 // Gives the last digit of the number of the first reason that applies to record i by itself, or 0 where none does.
@@ -302,9 +302,12 @@ pub fn verdict(t: &[u8]) -> Verdict
 {
     let code = fault(t);
     if code == 0 {
-        Verdict::Valid
+        Ok(())
     } else {
-        Verdict::Fault(reason(code % 8), (code / 8) as usize)
+        Err(Fault {
+            reason: reason(code % 8),
+            at: (code / 8) as usize,
+        })
     }
 }
 

@@ -1,8 +1,8 @@
 -- A malformed event first, then a table that is not valid.
+use Rattle.rules.specs.Verdict.{no_fault, Verdict}
 use Rattle.std.proofs.Common.{◌≡◌, ℕ, List, Bool, true, sym, ap, ap₂, subst, ◌∙◌, arith}
 use Rattle.rules.specs.declared.event.Event.{Event}
 use Rattle.rules.specs.declared.outcome.Refusal.TheVariants.{Malformed}
-use Rattle.rules.specs.declared.verdict.Verdict.{Verdict}
 use Rattle.rules.specs.Event.{well_formed}
 use Rattle.rules.specs.Decision.{unless, decision}
 use Rattle.rules.specs.Valid.{is_valid, verdict, valid}
@@ -23,20 +23,20 @@ settled t e formed known =
 pub overflow_cast-result : goal.overflow_cast-result
 unfolding records
 overflow_cast-result c =
-    let there = fault-there records c.args.t.now _ _ (sym c.requires.verdict_value ∙ c.in-Fault.is) in
+    let there = fault-there records c.args.t.now _ _ (sym c.requires.verdict_value ∙ c.in-Err.is) in
     omega arith
 
-pub returns-in-Valid-clause-outcome : goal.returns-in-Valid-clause-outcome
-returns-in-Valid-clause-outcome c =
-    c.decision.ensures ∙ sym (settled c.args.t.now c.args.e (sym c.well_formed-2.ensures ∙ c.if-well_formed.true) (sym c.requires.verdict_value ∙ c.in-Valid.is))
+pub returns-in-Ok-clause-outcome : goal.returns-in-Ok-clause-outcome
+returns-in-Ok-clause-outcome c =
+    c.decision.ensures ∙ sym (settled c.args.t.now c.args.e (sym c.well_formed-2.ensures ∙ c.if-well_formed.true) (sym c.requires.verdict_value ∙ c.in-Ok.is))
 
-pub returns-in-Valid-clause-ready : goal.returns-in-Valid-clause-ready
+pub returns-in-Ok-clause-ready : goal.returns-in-Ok-clause-ready
 unfolding valid
-returns-in-Valid-clause-ready c =
+returns-in-Ok-clause-ready c =
     let t = c.args.t.now in
     subst (Ready t) (sym c.decision.ensures)
-    (ready t (ap is_valid (sym c.requires.verdict_value ∙ c.in-Valid.is)) c.args.e (sym c.well_formed-2.ensures ∙ c.if-well_formed.true))
+    (ready t (ap is_valid (sym c.requires.verdict_value ∙ c.in-Ok.is)) c.args.e (sym c.well_formed-2.ensures ∙ c.if-well_formed.true))
 
-pub returns-in-Fault-clause-outcome : goal.returns-in-Fault-clause-outcome
-returns-in-Fault-clause-outcome c =
-    sym (settled c.args.t.now c.args.e (sym c.well_formed-2.ensures ∙ c.if-well_formed.true) (sym c.requires.verdict_value ∙ c.in-Fault.is))
+pub returns-in-Err-clause-outcome : goal.returns-in-Err-clause-outcome
+returns-in-Err-clause-outcome c =
+    sym (settled c.args.t.now c.args.e (sym c.well_formed-2.ensures ∙ c.if-well_formed.true) (sym c.requires.verdict_value ∙ c.in-Err.is))

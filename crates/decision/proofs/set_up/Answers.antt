@@ -1,6 +1,6 @@
 -- A call that stands somewhere first, then by what the choice found.
 use Rattle.std.proofs.Common.{sym, ap, ◌∙◌}
-use Rattle.rules.specs.declared.outcome.Outcome.TheVariants.{Refuse}
+use Rattle.std.specs.Prelude.{Ok, Err}
 use Rattle.rules.specs.Records.{circuit_at, circuits}
 use Rattle.decision.proofs.Findings.{at, none}
 use Rattle.decision.proofs.Nowhere.{choice-made}
@@ -15,5 +15,5 @@ returns-in-Some c =
 pub returns-in-None : goal.returns-in-None
 returns-in-None c =
     let a = c.args in
-    ap Refuse c.blocked.ensures ∙ none _ _ c.in-None.is c.choose.ensures
+    ap Err c.blocked.ensures ∙ none _ _ c.in-None.is c.choose.ensures
     ∙ choice-made (circuit_at a.t.now) (circuits a.t.now) a.e (sym c.stands_nowhere.ensures ∙ c.if-not-stands_nowhere.false)

@@ -1,7 +1,7 @@
 -- The code follows from the first record with a fault.
+use Rattle.rules.specs.Verdict.{no_fault}
 use Rattle.std.proofs.Common.{◌≡◌, ℕ, ◌+◌, ◌*◌, not, List, sym, ap, ◌∙◌, arith, below_more}
-use Rattle.std.specs.Prelude.{Option}
-use Rattle.rules.specs.declared.verdict.Verdict.TheVariants.{Valid}
+use Rattle.std.specs.Prelude.{Option, Ok, Err}
 use Rattle.rules.specs.Search.{first_to, found}
 use Rattle.rules.specs.Valid.{record_verdict, records_to}
 use Rattle.rules.specs.Records.{records, circuits}
@@ -12,10 +12,10 @@ use Rattle.validity.proofs.Codes.{digit_below, digit-zero, digit-fault, located}
 use Rattle.validity.proofs.each_record.Goals as goal
 
 -- the code of what the first fault is
-follows : (t : List ℕ) {r : Option ℕ} → first_to (bad records t) (circuits t) ≡ r → code_of (found r (record_verdict records t) Valid) ≡ code_of (records_to records t (circuits t))
+follows : (t : List ℕ) {r : Option ℕ} → first_to (bad records t) (circuits t) ≡ r → code_of (found r (record_verdict records t) no_fault) ≡ code_of (records_to records t (circuits t))
 follows t e =
     ap code_of
-    (ap (λ (f : Option ℕ). found f (record_verdict records t) Valid) (sym e) ∙ sym (first_fault records t (circuits t)))
+    (ap (λ (f : Option ℕ). found f (record_verdict records t) no_fault) (sym e) ∙ sym (first_fault records t (circuits t)))
 
 pub code-requires : goal.code-requires
 code-requires c =

@@ -2,8 +2,8 @@
 use Rattle.std.proofs.Common.{◌≡◌, ℕ, ◌/◌, ap, ◌∙◌}
 use Rattle.octets.proofs.Tests.{ways}
 use Rattle.rules.specs.declared.verdict.Reason.{Reason}
-use Rattle.rules.specs.declared.verdict.Verdict.{Verdict}
-use Rattle.rules.specs.declared.verdict.Verdict.TheVariants.{Fault}
+use Rattle.rules.specs.Verdict.{Verdict, fault}
+use Rattle.std.specs.Prelude.{Ok, Err}
 use Rattle.validity.specs.Code.{code_of}
 use Rattle.validity.proofs.Codes.{verdict_of, verdict_back}
 use Rattle.validity.proofs.verdict.Goals as goal
@@ -17,5 +17,5 @@ returns-then-code-eq0 c = said c.fault-code.ensures (search ways)
 
 pub returns-else-code-eq0 : goal.returns-else-code-eq0
 returns-else-code-eq0 c =
-    let r = ap (λ (r : Reason). Fault r (c.fault-code.result / 8)) c.reason.ensures in
+    let r = ap (λ (r : Reason). fault r (c.fault-code.result / 8)) c.reason.ensures in
     said c.fault-code.ensures (search ways)
