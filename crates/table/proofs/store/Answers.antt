@@ -20,5 +20,5 @@ returns c =
     (c.write.ensures
     ∙ ap (λ (u : List ℕ). put u (o + 28) z) (c.store_reservation.ensures ∙ ap (λ (u : List ℕ). put u (o + 12) r) c.store_part.ensures ∙ put-put t o h r)
     ∙ put-put t o (h ++ r) z)
-    c.state_octets-s.ensures
+    c.state_octets.ensures
     ∙ put-put t o ((h ++ r) ++ z) (state_octets a.c.ringing)
