@@ -30,27 +30,27 @@ pub fn naustvri_version() -> u32
 pub fn naustvri_read_precedence(octets: &[u8]) -> fields::precedence::Reading
     ensures reading { result ≡ precedence.read_precedence octets.now }
 {
-    fields::precedence::read(octets)
+    fields::precedence::read(octets).into()
 }
 
 pub fn naustvri_write_precedence(buffer: &mut [u8], value: fields::precedence::Precedence) -> u8
     ensures number { result ≡ precedence.write_number buffer.old value }
     ensures buffer { buffer.new ≡ precedence.write_buffer buffer.old value }
 {
-    fields::precedence::write(buffer, value)
+    fields::refusal::number(fields::precedence::write(buffer, value))
 }
 
 pub fn naustvri_read_reference(octets: &[u8]) -> fields::reference::Reading
     ensures reading { result ≡ reference.read_reference octets.now }
 {
-    fields::reference::read(octets)
+    fields::reference::read(octets).into()
 }
 
 pub fn naustvri_write_reference(buffer: &mut [u8], value: fields::reference::Reference) -> u8
     ensures number { result ≡ reference.write_number buffer.old value }
     ensures buffer { buffer.new ≡ reference.write_buffer buffer.old value }
 {
-    fields::reference::write(buffer, value)
+    fields::refusal::number(fields::reference::write(buffer, value))
 }
 
 pub fn naustvri_next_parameter(part: &[u8], place: usize) -> optional::part::Parameter

@@ -97,11 +97,9 @@ fn taken(part: &[u8], start: usize, count: usize) -> Search
     ensures { result ≡ taken start (read_precedence (take count (drop start part.now))) }
 {
     let end = start + count;
-    let reading = precedence::read(&part[start..end]);
-    if reading.number != number::DONE {
+    let Ok(value) = precedence::read(&part[start..end]) else {
         return refused(number::MALFORMED);
-    }
-    let value = reading.value;
+    };
     let result = Found {
         number: number::DONE,
         found: 1,

@@ -39,8 +39,7 @@ fn sound(list: &[u8], entry: Entry) -> bool
     if entry.name != part::PRECEDENCE {
         return true;
     }
-    let reading = precedence::read(&list[start..next]);
-    reading.number == number::DONE
+    precedence::read(&list[start..next]).is_ok()
 }
 
 // Gives 1 for precedence, else 0.
