@@ -76,11 +76,7 @@ impl Best {
     fn found(self) -> Option<usize>
         ensures { result ≡ found_in self }
     {
-        if 0 < self.rank {
-            Some(self.at)
-        } else {
-            None
-        }
+        if 0 < self.rank { Some(self.at) } else { None }
     }
 }
 

@@ -220,9 +220,5 @@ pub fn first_repeated(t: &[u8]) -> Option<usize>
         from = to;
         to = next;
     }
-    if lowest / 2 < n {
-        Some(lowest)
-    } else {
-        None
-    }
+    if lowest / 2 < n { Some(lowest) } else { None }
 }

@@ -79,17 +79,17 @@ pub verdict_back : (v : Verdict) → verdict_of (code_of v) ≡ v
 unfolding code_of
 verdict_back (Ok u) = refl
 verdict_back (Err flaw) =
-    let p = parts r i in
-    sym (if_ne _ _ (its r i) 0 p.0 (ap₂ fault (sym (reason_back r) ∙ ap reason_of (sym p.1)) (sym p.2)))
+    let p = parts flaw.reason flaw.at in
+    sym (if_ne _ _ (its flaw.reason flaw.at) 0 p.0 (ap₂ fault (sym (reason_back flaw.reason) ∙ ap reason_of (sym p.1)) (sym p.2)))
 
 -- what the check gives for a code it gives for its verdict
 pub check_back : (v : Verdict) → check_coded (code_of v) ≡ check_of v
 unfolding code_of
 check_back (Ok u) = refl
 check_back (Err flaw) =
-    let p = parts r i in
-    let w = reason-within r in
-    sym (if_ne _ _ (its r i) 0 p.0 (ap₂ (λ (k d : ℕ). record { number = k; detail = d }) (omega arith) (sym p.2)))
+    let p = parts flaw.reason flaw.at in
+    let w = reason-within flaw.reason in
+    sym (if_ne _ _ (its flaw.reason flaw.at) 0 p.0 (ap₂ (λ (k d : ℕ). record { number = k; detail = d }) (omega arith) (sym p.2)))
 
 -- where the record has room in 16 bits, the code has room in 19
 pub code_below : (v : Verdict) → (check_of v).detail ≤ no_detail → code_of v < 8 * 65536

@@ -15,7 +15,6 @@ use Rattle.octets.proofs.Spans.{span_at, agree_first, zeros_agree, zeros_all, ze
 use Rattle.octets.proofs.Sames.{same_true}
 use Rattle.rules.specs.declared.part.Part.{Part}
 use Rattle.rules.specs.declared.circuit.Circuit.{Circuit}
-use Rattle.std.specs.Prelude.{Ok, Err}
 use Rattle.rules.specs.Fields.{level_ok}
 use Rattle.rules.specs.Circuit.{outranks, same_mark, no_precedence, preemptable}
 use Rattle.rules.specs.Valid.{if_present, held_under, levels_ok, fields_ok, pair_ok, record_verdict}

@@ -3,7 +3,7 @@ use Rattle.std.specs.Prelude.{ℕ, ◌+◌, ◌-◌, ◌*◌, ◌/◌, ◌%◌, 
 use Rattle.rules.specs.declared.verdict.Check.{Check}
 use Rattle.rules.specs.declared.verdict.Reason.{Reason}
 use Rattle.rules.specs.declared.verdict.Reason.TheVariants.{FlagOrLevel, DigitOrPointCode, NotZero, NotAbove, Repeated}
-use Rattle.rules.specs.Verdict.{Verdict, fault}
+use Rattle.rules.specs.Verdict.{Verdict}
 use Rattle.rules.specs.Numbers.{done, reason_number}
 use Rattle.rules.specs.Answer.{no_detail}
 

@@ -1,7 +1,7 @@
 -- The code follows from the first record with a fault.
 use Rattle.rules.specs.Verdict.{no_fault}
 use Rattle.std.proofs.Common.{◌≡◌, ℕ, ◌+◌, ◌*◌, not, List, sym, ap, ◌∙◌, arith, below_more}
-use Rattle.std.specs.Prelude.{Option, Ok, Err}
+use Rattle.std.specs.Prelude.{Option}
 use Rattle.rules.specs.Search.{first_to, found}
 use Rattle.rules.specs.Valid.{record_verdict, records_to}
 use Rattle.rules.specs.Records.{records, circuits}

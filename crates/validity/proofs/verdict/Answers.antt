@@ -3,7 +3,6 @@ use Rattle.std.proofs.Common.{◌≡◌, ℕ, ◌/◌, ap, ◌∙◌}
 use Rattle.octets.proofs.Tests.{ways}
 use Rattle.rules.specs.declared.verdict.Reason.{Reason}
 use Rattle.rules.specs.Verdict.{Verdict, fault}
-use Rattle.std.specs.Prelude.{Ok, Err}
 use Rattle.validity.specs.Code.{code_of}
 use Rattle.validity.proofs.Codes.{verdict_of, verdict_back}
 use Rattle.validity.proofs.verdict.Goals as goal
