@@ -2,17 +2,17 @@
 ghost use Rattle.std.specs.Prelude.{◌≡◌, true, ◌+◌, ◌*◌, ◌<◌, ◌≤◌, nat_le, ◌∷◌, slice_index};
 ghost use Rattle.octets.specs.Span.{zeros};
 ghost use Rattle.octets.specs.Same.{same};
-ghost use Rattle.rules.specs.Circuit.{same_mark, no_precedence, is_of, free, preemptable, standing, overdue};
+ghost use Rattle.rules.specs.Circuit.{same_mark, no_precedence, part_on, is_of, free, preemptable, standing, overdue};
 ghost use Rattle.rules.specs.Standing.{standing_of};
-ghost use Rattle.rules.specs.Valid.{if_present, part_numbered};
-ghost use Rattle.rules.specs.Records.{circuit_size, circuits, part_at, circuit_at, ringing_octet, first_octets, holder_octets, reservation_octets, spare_octets, tail_octets, state_octets, flags_at, zero_if_absent, blank_at};
+ghost use Rattle.rules.specs.Valid.{if_present, side_number};
+ghost use Rattle.rules.specs.Records.{circuit_size, circuits, ringing_octet, first_octets, holder_octets, reservation_octets, spare_octets, tail_octets, state_octets, flags_at, zero_if_absent, blank_at};
 
 use crate::{CIRCUIT_SIZE, CLOCK, DOMAIN, LAST, LEVEL, REFERENCE, RESERVATION, RINGING, SPARE};
 use rules::age::Age;
 use rules::circuit::Circuit;
 use rules::level::Level;
 use rules::mark::Mark;
-use rules::part::{Part, Reference};
+use rules::part::{Part, Reference, Side};
 use rules::standing::Standing;
 
 // The holder's part stands from this octet of a record on.
@@ -20,6 +20,16 @@ const HOLDER: usize = 0;
 
 // Octets 28 to 31 of a record are these where octet 30 is 1 and the others are zero.
 const RINGS: [u8; 4] = [0, 0, 1, 0];
+
+// Gives the octet of a record from which on the part on a side stands.
+fn start(side: Side) -> usize
+    ensures { result ≡ 12 * side_number side }
+{
+    match side {
+        Side::Holder => HOLDER,
+        Side::Reservation => RESERVATION,
+    }
+}
 
 #[derive(Clone, Copy)]
 pub struct Record<'a> {
@@ -55,62 +65,60 @@ impl<'a> Record<'a> {
         self.table[self.place(k)]
     }
 
-    // Reads the mark of the part that stands from octet `o` of the record on.
-    fn mark_at(self, o: usize) -> Mark
-        requires { o + 12 ≤ 32 }
-        ensures { result ≡ (part_at self.entry.table.now (circuit_size * self.entry.number + o)).mark }
+    // Tells whether the part on a side is present.
+    pub fn present(self, side: Side) -> bool
+        ensures { result ≡ (part_on side (circuit_in self.entry)).present }
+    {
+        self.octet(start(side)) == 1
+    }
+
+    // Reads the level of the part on a side.
+    fn level_on(self, side: Side) -> Level
+        ensures { result ≡ (part_on side (circuit_in self.entry)).mark.level }
+    {
+        Level::in_record(self.octet(start(side) + LEVEL))
+    }
+
+    // Reads the mark of the part on a side.
+    fn mark(self, side: Side) -> Mark
+        ensures { result ≡ (part_on side (circuit_in self.entry)).mark }
     {
         Mark {
-            level: Level::in_record(self.octet(o + LEVEL)),
-            domain: octets::read(self.table, self.place(o + DOMAIN)),
+            level: self.level_on(side),
+            domain: octets::read(self.table, self.place(start(side) + DOMAIN)),
         }
     }
 
-    // Reads the part that stands from octet `o` of the record on.
-    fn part_at(self, o: usize) -> Part
-        requires { o + 12 ≤ 32 }
-        ensures { result ≡ part_at self.entry.table.now (circuit_size * self.entry.number + o) }
+    // Reads the call reference in the part on a side.
+    pub fn reference(self, side: Side) -> Reference
+        ensures { result ≡ (part_on side (circuit_in self.entry)).reference }
+    {
+        octets::read(self.table, self.place(start(side) + REFERENCE))
+    }
+
+    // Reads the part on a side, the clock of a reservation aside.
+    pub fn part(self, side: Side) -> Part
+        ensures { result ≡ part_on side (circuit_in self.entry) }
     {
         Part {
-            present: self.octet(o) == 1,
-            mark: self.mark_at(o),
-            reference: octets::read(self.table, self.place(o + REFERENCE)),
+            present: self.present(side),
+            mark: self.mark(side),
+            reference: self.reference(side),
         }
     }
 
-    // Reads the holder's part.
-    pub fn holder(self) -> Part
-        ensures { result ≡ (circuit_in self.entry).holder }
+    // Tells whether the call with this reference stands in the part on a side. The reference seldom does, so it is compared before the flag.
+    pub fn stands_in(self, side: Side, reference: Reference) -> bool
+        ensures { result ≡ is_of reference (part_on side (circuit_in self.entry)) }
     {
-        self.part_at(HOLDER)
-    }
-
-    // Reads the reservation's part, its clock aside.
-    pub fn reservation(self) -> Part
-        ensures { result ≡ (circuit_in self.entry).reservation }
-    {
-        self.part_at(RESERVATION)
-    }
-
-    // Tells whether the circuit is held.
-    pub fn held(self) -> bool
-        ensures { result ≡ (circuit_in self.entry).holder.present }
-    {
-        self.octet(HOLDER) == 1
-    }
-
-    // Tells whether the circuit is reserved.
-    pub fn reserved(self) -> bool
-        ensures { result ≡ (circuit_in self.entry).reservation.present }
-    {
-        self.octet(RESERVATION) == 1
+        self.reference(side) == reference && self.present(side)
     }
 
     // Tells whether the circuit is free, by its two flags.
     pub fn free(self) -> bool
         ensures { result ≡ free (circuit_in self.entry) }
     {
-        Standing::free(self.held(), self.reserved())
+        Standing::free(self.present(Side::Holder), self.present(Side::Reservation))
     }
 
     // Tells whether the holder rings.
@@ -124,8 +132,11 @@ impl<'a> Record<'a> {
     fn preemptable(self) -> bool
         ensures { result ≡ preemptable (circuit_in self.entry) }
     {
-        let level = Level::in_record(self.octet(LEVEL));
-        Standing::preemptable(self.held(), level, self.ringing())
+        Standing::preemptable(
+            self.present(Side::Holder),
+            self.level_on(Side::Holder),
+            self.ringing(),
+        )
     }
 
     // Tells whether the holder's mark is that of a call under no precedence.
@@ -135,20 +146,22 @@ impl<'a> Record<'a> {
         self.octet(LEVEL) == Level::NONE.0 && octets::is_zero::<5>(self.table, self.place(DOMAIN))
     }
 
-    // Gives the octet of the record from which on the part stands whose mark is the standing one: the reservation's if there is one, else the
-    // holder's.
-    fn standing_part(self) -> usize
-        ensures within { result + 12 ≤ 32 }
-        ensures mark { (part_at self.entry.table.now (circuit_size * self.entry.number + result)).mark ≡ standing (circuit_in self.entry) }
+    // Gives the side on which the mark is the standing one: the reservation's if there is one, else the holder's.
+    fn standing_side(self) -> Side
+        ensures { (part_on result (circuit_in self.entry)).mark ≡ standing (circuit_in self.entry) }
     {
-        if self.reserved() { RESERVATION } else { HOLDER }
+        if self.present(Side::Reservation) {
+            Side::Reservation
+        } else {
+            Side::Holder
+        }
     }
 
     // Reads the level of the standing mark.
     pub fn level(self) -> Level
         ensures { result ≡ (standing (circuit_in self.entry)).level }
     {
-        Level::in_record(self.octet(self.standing_part() + LEVEL))
+        self.level_on(self.standing_side())
     }
 
     // Reads the standing of the circuit: its two flags, whether its holder may lose it, and of its two marks the one that stands.
@@ -156,10 +169,10 @@ impl<'a> Record<'a> {
         ensures { result ≡ standing_of (circuit_in self.entry) }
     {
         Standing {
-            held: self.held(),
-            reserved: self.reserved(),
+            held: self.present(Side::Holder),
+            reserved: self.present(Side::Reservation),
             preemptable: self.preemptable(),
-            mark: self.mark_at(self.standing_part()),
+            mark: self.mark(self.standing_side()),
         }
     }
 
@@ -174,31 +187,7 @@ impl<'a> Record<'a> {
     pub fn overdue(self, clock: u32) -> bool
         ensures { result ≡ overdue clock (circuit_in self.entry) }
     {
-        self.reserved() && Age::between(clock, self.clock()).over()
-    }
-
-    // Tells whether the part on a side is present: side 0 is the holder's, and side 1 the reservation's.
-    pub fn present_on(self, side: usize) -> bool
-        requires { side < 2 }
-        ensures { result ≡ (part_numbered (circuit_at self.entry.table.now) (2 * self.entry.number + side)).present }
-    {
-        self.octet(RESERVATION * side) == 1
-    }
-
-    // Reads the call reference in the part on a side.
-    pub fn reference_on(self, side: usize) -> Reference
-        requires { side < 2 }
-        ensures { result ≡ (part_numbered (circuit_at self.entry.table.now) (2 * self.entry.number + side)).reference }
-    {
-        octets::read(self.table, self.place(RESERVATION * side + REFERENCE))
-    }
-
-    // Tells whether the call with this reference stands in the part on a side. The reference seldom does, so it is compared before the flag.
-    pub fn stands_in(self, side: usize, reference: Reference) -> bool
-        requires { side < 2 }
-        ensures { result ≡ is_of reference (part_numbered (circuit_at self.entry.table.now) (2 * self.entry.number + side)) }
-    {
-        self.reference_on(side) == reference && self.present_on(side)
+        self.present(Side::Reservation) && Age::between(clock, self.clock()).over()
     }
 
     // Reads the circuit.
@@ -206,8 +195,8 @@ impl<'a> Record<'a> {
         ensures { result ≡ circuit_in self.entry }
     {
         Circuit {
-            holder: self.holder(),
-            reservation: self.reservation(),
+            holder: self.part(Side::Holder),
+            reservation: self.part(Side::Reservation),
             clock: self.clock(),
             ringing: self.ringing(),
         }
@@ -217,7 +206,7 @@ impl<'a> Record<'a> {
     fn ringing_flag(self) -> bool
         ensures { result ≡ if_present (circuit_in self.entry).holder (nat_le (ringing_octet self.entry.table.now self.entry.number) 1) }
     {
-        !self.held() || self.octet(RINGING) <= 1
+        !self.present(Side::Holder) || self.octet(RINGING) <= 1
     }
 
     // Tells whether each flag is 0 or 1, and, where there is a holder, the octet that says whether it rings. That octet is asked first: in this
@@ -276,14 +265,14 @@ impl<'a> Record<'a> {
     fn holder_blank(self) -> bool
         ensures { result ≡ zero_if_absent (circuit_in self.entry).holder (holder_octets self.entry.table.now self.entry.number) }
     {
-        self.held() || self.holder_zero()
+        self.present(Side::Holder) || self.holder_zero()
     }
 
     // Tells whether there is a reservation, or every octet of the reservation's part is zero.
     fn reservation_blank(self) -> bool
         ensures { result ≡ zero_if_absent (circuit_in self.entry).reservation (reservation_octets self.entry.table.now self.entry.number) }
     {
-        self.reserved() || self.reservation_zero()
+        self.present(Side::Reservation) || self.reservation_zero()
     }
 
     // Tells whether what must be zero is zero.
