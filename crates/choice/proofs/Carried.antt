@@ -1,11 +1,10 @@
 -- What is carried along a route is the best circuit passed, with its rank.
-use Prim.Native.Nat.{ℕ, zero, suc, ◌+◌, ◌<◌, ◌≤◌}
-use mathlib.Core.Path.{◌≡◌, refl, sym, ap, subst, ◌∙◌}
+use Prim.Native.Nat.{ℕ, zero, suc, ◌<◌, ◌≤◌}
+use mathlib.Core.Path.{◌≡◌, refl, ap, subst, ◌∙◌}
 use mathlib.Core.Bool.{Bool, true, false, cond}
-use native.Mathlib.Numerals.{add-one}
 use native.Mathlib.Omega.{arith}
 use lib.Dec.{ltb}
-use borrow.Author.Tests.{lt-ltb, le-ltb, ltb-true}
+use borrow.Author.Tests.{lt-ltb, ltb-true}
 use Rattle.rules.specs.declared.mark.Mark.{Mark}
 use Rattle.rules.specs.declared.circuit.Circuit.{Circuit}
 use Rattle.std.specs.Prelude.{Option, Some, None}
@@ -13,16 +12,8 @@ use Rattle.rules.specs.Search.{or_else, first_to, better, best_to, found}
 use Rattle.rules.specs.Circuit.{free, rank}
 use Rattle.rules.specs.Choice.{choice}
 use Rattle.choice.specs.declared.Best.{Best}
-use Rattle.choice.specs.Best.{above, improved, found_in, carried_to}
+use Rattle.choice.specs.Best.{improved, found_in, carried_to}
 use Rattle.choice.proofs.Walk.{Passed, returned, ended}
-
--- a rank that is not above the best so far may be given as 0
-improved-above : (b : Best) (rank i : ℕ) → improved b (above b.rank rank) i ≡ improved b rank i
-improved-above b rank i = go (ltb b.rank rank) refl
-  where
-    go : (t : Bool) → ltb b.rank rank ≡ t → improved b (cond t rank 0) i ≡ cond t (record { rank = rank; at = i }) b
-    go true e = ap (λ (t : Bool). cond t (record { rank = rank; at = i }) b) e
-    go false e = ap (λ (t : Bool). cond t (record { rank = 0; at = i }) b) (le-ltb b.rank 0 (omega arith))
 
 module _ (k : ℕ → ℕ) where
   -- b carries f and the rank that k gives there
@@ -47,11 +38,6 @@ module _ (k : ℕ → ℕ) where
   carries : (n : ℕ) → Carries (best_to k n) (carried_to k n)
   carries zero = (refl, refl)
   carries (suc n) = carries_more (best_to k n) (carried_to k n) n (carries n)
-
-  -- one turn of the loop: the best b is improved by what a glance gave at i
-  pub carried_on : (i : ℕ) {b c : Best} {here : ℕ} → b ≡ carried_to k i → here ≡ above b.rank (k i) → c ≡ improved b here i → c ≡ carried_to k (i + 1)
-  carried_on i {b} p q r =
-      r ∙ ap (λ (h : ℕ). improved b h i) q ∙ improved-above b (k i) i ∙ ap (λ (b : Best). improved b (k i) i) p ∙ ap (carried_to k) (sym (add-one i))
 
 abbrev pub frees : (ℕ → Circuit) → ℕ → Bool  -- whether each circuit is free
 frees x j = free (x j)

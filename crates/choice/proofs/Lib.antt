@@ -1,4 +1,3 @@
 pub mod Walk
 pub mod Carried
 pub mod Ranked
-pub mod Sides

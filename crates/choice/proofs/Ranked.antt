@@ -1,14 +1,13 @@
 -- What a glance says of a circuit: its rank if that is above the greatest so far, and 1 if it is free, which no rank is.
 use Prim.Native.Nat.{ℕ, ◌+◌, ◌*◌, ◌<◌, ◌≤◌}
-use mathlib.Core.Path.{◌≡◌, refl, sym, ap, ap₂, ◌∙◌}
+use mathlib.Core.Path.{◌≡◌, sym, ap, ap₂, ◌∙◌}
 use mathlib.Core.Logic.{◌≢◌}
 use mathlib.Core.Bool.{Bool, true, false, cond, ◌&&◌, not}
 use native.Mathlib.Omega.{arith}
 use lib.Dec.{ltb}
-use borrow.Author.Rules.{rules}
 use borrow.Author.Tests.{ltb-true}
 use Rattle.octets.specs.Same.{same}
-use Rattle.octets.proofs.Tests.{by_so, by_test, and_right, second_off, if_true, if_false, if_lt, if_ge}
+use Rattle.octets.proofs.Tests.{by_so, by_test, and_right, second_off, if_lt, if_ge}
 use Rattle.rules.specs.declared.level.Level.{Level}
 use Rattle.rules.specs.declared.mark.Mark.{Mark}
 use Rattle.rules.specs.declared.circuit.Circuit.{Circuit}
@@ -18,20 +17,7 @@ use Rattle.rules.specs.Standing.{standing_of}
 use Rattle.rules.proofs.Choice.{rank-taken, rank_not}
 use Rattle.choice.specs.Best.{above}
 
--- ---- what is read of a circuit says whether it is free, its worth, and whether it is takeable
-module _ (held reserved : Bool) {A : Type 0} (x y : A) {z : A} {r : Bool} where
-  pub if_reserved : r ≡ reserved → r ≡ true → z ≡ y → z ≡ cond (not held && not reserved) x y
-  if_reserved e h = if_false x y (not held && not reserved) (second_off (not held) (not reserved) (ap not (sym e ∙ h))) refl
-
-  pub if_held : r ≡ held → r ≡ true → z ≡ y → z ≡ cond (not held && not reserved) x y
-  if_held e h = if_false x y (not held && not reserved) (ap (λ (b : Bool). not b && not reserved) (sym h ∙ e)) refl
-
-  pub if_neither : {s : Bool} → r ≡ reserved → r ≡ false → s ≡ held → s ≡ false → z ≡ x → z ≡ cond (not held && not reserved) x y
-  if_neither d g e h = if_true x y (not held && not reserved) (ap₂ (λ (a b : Bool). not a && not b) (sym h ∙ e) (sym g ∙ d)) refl
-
--- closes a return by the flags that the code asked
-pub ruleset flags = (rules, if_reserved, if_held, if_neither)
-
+-- ---- what is read of a circuit says its worth, and whether it is takeable
 pub worth-read : (c : Circuit) {w : ℕ} {l : Level} {held : Bool} → l ≡ (standing c).level → held ≡ c.holder.present → w ≡ 1 + 2 * l.0 + cond held 0 1 → w ≡ worth c
 unfolding worth
 worth-read c p q e = e ∙ ap₂ (λ (l : Level) (held : Bool). 1 + 2 * l.0 + cond held 0 1) p q
@@ -78,6 +64,3 @@ module _ (m : Mark) (c : Circuit) where
     glance-free h =
         by_so (free c) (λ f. f)
         (λ f. absurd (by_test (λ (n : ℕ). n ≢ 1) (ltb top (rank m c)) (rank m c) 0 (λ t. rank_not_one) (λ t e. omega arith) (sym (given f) ∙ h)))
-
-    pub glance-passed : (here ≡ 1 → ⊥) → (free c ≡ false) × (here ≡ above top (rank m c))
-    glance-passed h = by_so (free c) (λ f. absurd (h (given f))) (λ f. (f, given f))

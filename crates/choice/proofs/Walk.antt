@@ -3,7 +3,7 @@ use Prim.Native.Nat.{ℕ, ◌<◌, ◌≤◌}
 use mathlib.Core.Path.{◌≡◌, sym}
 use mathlib.Core.Bool.{Bool, true, false}
 use native.Mathlib.Omega.{arith}
-use Rattle.std.specs.Prelude.{Some, None}
+use Rattle.std.specs.Prelude.{Option, Some, None, MatchOption}
 use Rattle.rules.specs.Search.{first_to}
 use Rattle.rules.proofs.Searches.{first_of, first_none}
 
@@ -18,3 +18,9 @@ module _ (test : ℕ → Bool) where
 
     pub returned : i < m → test i ≡ true → Some i ≡ first_to test n
     returned l t = sym (first_of test n i (omega arith) passed t)
+
+  -- what a search over a range finds
+  pub first_found : {m n : ℕ} → m ≡ n → (r : Option ℕ)
+      → MatchOption r ((j : ℕ) → 0 ≤ j → j < m → test j ≡ false) (λ i. (0 ≤ i) × (i < m) × (test i ≡ true) × ((j : ℕ) → 0 ≤ j → j < i → test j ≡ false)) → r ≡ first_to test n
+  first_found {n = n} counted (Some i) h = sym (first_of test n i (omega (arith, h.1)) (λ j l. h.3 j (omega arith) l) h.2)
+  first_found {n = n} counted None h = sym (first_none test n (λ j l. h j (omega arith) (omega arith)))

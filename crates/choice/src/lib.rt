@@ -2,53 +2,49 @@
 
 #![tactic(auto)]
 
-ghost use Rattle.std.specs.Prelude.{◌≡◌, cond, ◌+◌, ◌*◌, ◌<◌};
+ghost use Rattle.std.specs.Prelude.{◌≡◌, cond, ◌<◌};
 ghost use Rattle.rules.specs.Search.{first_to};
-ghost use Rattle.rules.specs.Circuit.{is_of, free, rank};
-ghost use Rattle.rules.specs.Valid.{part_numbered};
+ghost use Rattle.rules.specs.Circuit.{part_on, is_of, free, rank};
 ghost use Rattle.rules.specs.Records.{circuits, circuit_at};
 ghost use Rattle.rules.specs.Choice.{choice, held_by, reserved_by};
+ghost use Rattle.table.specs.Record.{circuit_in};
 ghost use Rattle.choice.specs.Best.{above, improved, found_in};
 
 use rules::mark::Mark;
-use rules::part::Reference;
+use rules::part::{Reference, Side};
 use rules::standing::Standing;
+use table::Record;
 
 // A glance at a circuit gives this number where the circuit is free. No rank is 1.
 const FREE: usize = 1;
 
-// Gives the rank of circuit i, which is not free, for a call with this mark if it is above `top`, else 0. The cheapest test goes first: the
+// Gives the rank of a circuit that is not free, for a call with this mark, if it is above `top`, else 0. The cheapest test goes first: the
 // level of the part that stands, then its worth; whether the circuit is preemptable, and the domain, which is five octets, are asked only
 // where the circuit would be better.
-fn weighed(t: &[u8], by: Mark, i: usize, top: usize) -> usize
-    requires { i < circuits t.now }
-    ensures { result ≡ above top (rank by (circuit_at t.now i)) }
+fn weighed(circuit: Record, by: Mark, top: usize) -> usize
+    ensures { result ≡ above top (rank by (circuit_in circuit.entry)) }
 {
-    let level = table::level_at(t, i);
+    let level = circuit.level();
     if !by.level.higher(level) {
         return 0;
     }
-    let worth = Standing::worth(table::held_at(t, i), level);
+    let worth = Standing::worth(circuit.present(Side::Holder), level);
     if worth <= top {
         return 0;
     }
-    if table::standing_at(t, i).takeable(by) {
+    if circuit.standing().takeable(by) {
         worth
     } else {
         0
     }
 }
 
-// Looks at circuit i for a call with this mark: gives FREE where it is free, its rank where that is above `top`, else 0.
-fn glance(t: &[u8], by: Mark, i: usize, top: usize) -> usize
-    requires { i < circuits t.now }
-    ensures { result ≡ cond (free (circuit_at t.now i)) 1 (above top (rank by (circuit_at t.now i))) }
+// Looks at a circuit for a call with this mark: gives FREE where it is free, its rank where that is above `top`, else 0.
+fn glance(circuit: Record, by: Mark, top: usize) -> usize
+    ensures { result ≡ cond (free (circuit_in circuit.entry)) 1 (above top (rank by (circuit_in circuit.entry))) }
 {
-    if table::reserved_at(t, i) {
-        return weighed(t, by, i, top);
-    }
-    if table::held_at(t, i) {
-        weighed(t, by, i, top)
+    if circuit.present(Side::Reservation) || circuit.present(Side::Holder) {
+        weighed(circuit, by, top)
     } else {
         FREE
     }
@@ -84,46 +80,40 @@ impl Best {
 pub fn choose(t: &[u8], by: Mark) -> Option<usize>
     ensures { result ≡ choice (circuit_at t.now) (circuits t.now) by }
 {
-    let n = table::count(t);
     let mut best = Best { rank: 0, at: 0 };
-    let mut i = 0;
-    while i < n {
-        let here = glance(t, by, i, best.rank);
+    for number in 0..table::count(t) {
+        let here = glance(Record { table: t, number }, by, best.rank);
         if here == FREE {
-            return Some(i);
+            return Some(number);
         }
-        best = best.improved(here, i);
-        i += 1;
+        best = best.improved(here, number);
     }
     best.found()
 }
 
-// Finds the circuit on which the call with this reference stands: side 0 is the holders', and side 1 the reservations'.
-fn circuit_of(t: &[u8], reference: Reference, side: usize) -> Option<usize>
-    requires { side < 2 }
-    ensures { result ≡ first_to (λ i. is_of reference (part_numbered (circuit_at t.now) (2 * i + side))) (circuits t.now) }
+// Finds the circuit on which the call with this reference stands on a side.
+fn circuit_of(t: &[u8], reference: Reference, side: Side) -> Option<usize>
+    ensures { result ≡ first_to (λ i. is_of reference (part_on side (circuit_at t.now i))) (circuits t.now) }
 {
-    let n = table::count(t);
-    let mut i = 0;
-    while i < n {
-        if table::stands_in(t, i, side, reference) {
-            return Some(i);
-        }
-        i += 1;
-    }
-    None
+    (0..table::count(t)).find(
+        |&number|
+            requires { number < circuits t.now }
+        { Record { table: t, number }.stands_in(side, reference) },
+    )
 }
 
 // Finds the circuit that the call with this reference holds.
+#[tactic(auto, unfolding(rules::specs::Choice::held_by))]
 pub fn held_by(t: &[u8], reference: Reference) -> Option<usize>
     ensures { result ≡ held_by (circuit_at t.now) (circuits t.now) reference }
 {
-    circuit_of(t, reference, 0)
+    circuit_of(t, reference, Side::Holder)
 }
 
 // Finds the circuit that the call with this reference has reserved.
+#[tactic(auto, unfolding(rules::specs::Choice::reserved_by))]
 pub fn reserved_by(t: &[u8], reference: Reference) -> Option<usize>
     ensures { result ≡ reserved_by (circuit_at t.now) (circuits t.now) reference }
 {
-    circuit_of(t, reference, 1)
+    circuit_of(t, reference, Side::Reservation)
 }

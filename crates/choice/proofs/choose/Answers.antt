@@ -8,12 +8,12 @@ pub returns-then-here-eq-FREE : goal.returns-then-here-eq-FREE
 returns-then-here-eq-FREE c =
     let a = c.args in
     let x = circuit_at a.t.now in
-    let i = c.loop-i.i in
-    free-chosen x a.by i c.loop-i.invariant.1 c.count-n.ensures c.loop-i-test.true
-    (glance-free a.by (x i) c.loop-i.best.rank c.glance-here.ensures c.if-here-eq-FREE.true)
+    let at = c.loop-number in
+    free-chosen x a.by at.number at.invariant.0 c.count-number-end.ensures c.loop-number-test.true
+    (glance-free a.by (x at.number) at.best.rank c.glance-here.ensures c.if-here-eq-FREE.true)
 
 pub returns : goal.returns
 returns c =
     let a = c.args in
-    let at = c.loop-i in
-    best_chosen (circuit_at a.t.now) a.by at.i at.invariant.1 c.count-n.ensures at.invariant.0 c.loop-i-test.false at.invariant.2 c.found.ensures
+    let at = c.loop-number in
+    best_chosen (circuit_at a.t.now) a.by at.number at.invariant.0 c.count-number-end.ensures at.auto.number-end c.loop-number-test.false at.invariant.1 c.found.ensures

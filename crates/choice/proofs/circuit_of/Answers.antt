@@ -1,19 +1,14 @@
--- The loop returns at the first circuit on whose side the call stands.
-use Rattle.std.proofs.Common.{◌+◌, ◌*◌, sym, ◌∙◌}
-use Rattle.rules.specs.Circuit.{is_of}
-use Rattle.rules.specs.Valid.{part_numbered}
+-- What is found on a side is the first circuit on which the call stands there.
+use Rattle.std.proofs.Common.{◌≡◌, ℕ, Bool, true, false, rules}
+use Rattle.std.proofs.lemmas.Iterator.{first_from_Range}
+use Rattle.rules.specs.Circuit.{part_on, is_of}
 use Rattle.rules.specs.Records.{circuit_at}
-use Rattle.choice.proofs.Walk.{returned, ended}
+use Rattle.choice.proofs.Walk.{first_found}
 use Rattle.choice.proofs.circuit_of.Goals as goal
-
-pub returns-then-stands_in : goal.returns-then-stands_in
-returns-then-stands_in c =
-    let a = c.args in
-    returned (λ i. is_of a.reference (part_numbered (circuit_at a.t.now) (2 * i + a.side))) c.loop-i.i c.loop-i.invariant
-    c.count-n.ensures c.loop-i-test.true (sym c.stands_in.ensures ∙ c.if-stands_in.true)
 
 pub returns : goal.returns
 returns c =
     let a = c.args in
-    ended (λ i. is_of a.reference (part_numbered (circuit_at a.t.now) (2 * i + a.side))) c.loop-i.i c.loop-i.invariant
-    c.count-n.ensures c.loop-i-test.false
+    let test : ℕ → Bool = λ i. is_of a.reference (part_on a.side (circuit_at a.t.now i)) in
+    first_found test c.count.ensures _
+    (first_from_Range _ _ _ _ (λ i. test i ≡ true) (λ i. test i ≡ false) c.find.ensures.ran (λ x q k. search rules) (λ x q k. search rules))
