@@ -2,7 +2,7 @@
 
 #![tactic(auto)]
 
-ghost use Rattle.std.specs.Prelude.{◌≡◌, cond, ◌||◌, ◌<◌, ◌≤◌};
+ghost use Rattle.std.specs.Prelude.{◌≡◌, ◌≤◌};
 ghost use Rattle.rules.specs.Search.{count_to};
 ghost use Rattle.rules.specs.Circuit.{nobody, overdue};
 ghost use Rattle.rules.specs.Answer.{may_lose, no_loser, losers, anothers, answer_of};
@@ -37,20 +37,16 @@ fn no_loser(number: u8, detail: u16) -> Answer
     may_lose(number, detail, Part::nobody())
 }
 
-// Gives the number `none` where nobody is lost, and `some` where a holder or a reservation is.
-fn either(none: u8, some: u8, call: Part, reservation: Part) -> u8
-    ensures { result ≡ cond (call.present || reservation.present) some none }
-{
-    if call.present || reservation.present { some } else { none }
-}
-
-// Makes an answer that names whoever was lost.
+// Makes an answer that names whoever was lost: its number is `none` where nobody is, and `some` where a holder or a reservation is.
 fn losers(none: u8, some: u8, detail: u16, call: Part, reservation: Part) -> Answer
     ensures { result ≡ losers none some detail call reservation }
 {
-    let number = either(none, some, call, reservation);
     Answer {
-        number,
+        number: if call.present || reservation.present {
+            some
+        } else {
+            none
+        },
         detail,
         call,
         reservation,
@@ -96,30 +92,20 @@ fn acted(e: Event, a: Act, i: u16, c: Circuit) -> Answer
     }
 }
 
-// Gives what a circuit adds to a count: 1 where it counts, else 0.
-fn one(counts: bool) -> u16
-    ensures { (result ≡ cond counts 1 0) × (result ≤ 1) }
-{
-    if counts { 1 } else { 0 }
-}
-
 // Counts the reservations that are overdue.
 fn removed(t: &[u8], clock: u32) -> u16
     requires { circuits t.now ≤ most_circuits }
     ensures { result ≡ count_to (λ i. overdue clock (circuit_at t.now i)) (circuits t.now) }
 {
-    let n = table::count(t);
     let mut k: u16 = 0;
-    let mut i = 0;
-    while i < n {
-        k += one(table::overdue_at(t, i, clock));
-        i += 1;
+    for i in 0..table::count(t) {
+        k += u16::from(table::overdue_at(t, i, clock));
     }
     k
 }
 
 // Gives the answer to what was decided, from the table before it is changed.
-#[tactic(auto, unfolding(rules::specs::Answer::answer_of))]
+#[tactic(auto, using(crate::proofs::Acts::alone), unfolding(rules::specs::Answer::answer_of))]
 pub fn answered(t: &[u8], e: Event, o: Outcome) -> Answer
     requires t_bound { circuits t.now ≤ most_circuits }
     requires ready { Ready t.now o }

@@ -1,6 +1,6 @@
 -- What is decided names a circuit that a search found, so one that is there; and over a valid table its record is in order.
-use Prim.Native.Nat.{ℕ}
-use mathlib.Core.Path.{◌≡◌}
+use Prim.Native.Nat.{ℕ, ◌<◌}
+use mathlib.Core.Path.{◌≡◌, subst}
 use mathlib.Core.Bool.{Bool, true}
 use mathlib.Core.List.{List}
 use Rattle.rules.specs.declared.circuit.Circuit.{Circuit}
@@ -8,30 +8,39 @@ use Rattle.rules.specs.declared.event.Event.{Event}
 use Rattle.std.specs.Prelude.{Option, Some, None, Ok, Err}
 use Rattle.rules.specs.Outcome.{Outcome, does}
 use Rattle.rules.specs.declared.outcome.Deed.TheVariants.{Do, Clock}
+use Rattle.rules.specs.declared.verdict.Fault.{Fault}
 use Rattle.rules.specs.Search.{first_to}
 use Rattle.rules.specs.Circuit.{is_of}
 use Rattle.rules.specs.Choice.{reserved_by}
 use Rattle.rules.specs.Event.{well_formed}
 use Rattle.rules.specs.Decision.{decision}
-use Rattle.rules.specs.Valid.{valid}
+use Rattle.rules.specs.Valid.{verdict, valid}
 use Rattle.rules.specs.Records.{circuit_at, records, circuits}
 use Rattle.rules.specs.Ready.{Ready}
 use Rattle.rules.proofs.Faults.{Facts, valid_facts}
 use Rattle.rules.proofs.Searches.{FirstIs, first_is}
 use Rattle.rules.proofs.Sound.{Suits}
 use Rattle.rules.proofs.Right.{right}
-use Rattle.decision.proofs.Findings.{Below}
+use Rattle.rules.proofs.FirstFault.{fault-there}
 
-pub reserved_below : (n : ℕ) (x : ℕ → Circuit) (r : List ℕ) → Below n (reserved_by x n r)
+abbrev Below : ℕ → Option ℕ → Type 0  -- a search among n found one of them, or nothing
+Below n (Some i) = i < n
+Below n None = Unit {0}
+
+pub reserved_below : (x : ℕ → Circuit) (n : ℕ) (r : List ℕ) (i : ℕ) → reserved_by x n r ≡ Some i → i < n
 unfolding reserved_by
-reserved_below n x r = go (first_to f n) (first_is f n)
+reserved_below x n r i e = subst (Below n) e (go (first_to f n) (first_is f n))
   where
     f : ℕ → Bool
-    f i = is_of r (x i).reservation
+    f k = is_of r (x k).reservation
 
     go : (q : Option ℕ) → FirstIs f n q → Below n q
-    go (Some i) h = h.0
+    go (Some k) h = h.0
     go None h = tt
+
+pub fault_below : (t : List ℕ) (flaw : Fault) → verdict records t ≡ Err flaw → flaw.at < circuits t
+unfolding records
+fault_below t flaw = fault-there records t flaw.reason flaw.at
 
 pub ready : (t : List ℕ) → valid records t ≡ true → (e : Event) → well_formed e ≡ true → Ready t (decision (circuit_at t) (circuits t) e)
 unfolding records

@@ -57,10 +57,10 @@ module _ {A : Type 0} where
 
 -- ---- a set-up by a call that stands nowhere, and by one that stands somewhere and has reserved nothing
 module _ (x : ℕ → Circuit) (n : ℕ) (e : Event) where
-  pub choice-made : stands_nowhere x n e.reference ≡ true → chosen x n e Seize (blocked e) ≡ set_up x n e
+  pub choice_made : stands_nowhere x n e.reference ≡ true → set_up x n e ≡ chosen x n e Seize (blocked e)
   unfolding set_up
-  choice-made = both_nothing (held_by x n e.reference) (reserved_by x n e.reference) _ _ _
+  choice_made h = sym (both_nothing (held_by x n e.reference) (reserved_by x n e.reference) _ _ _ h)
 
-  pub holder-refused : stands_nowhere x n e.reference ≡ false → reserved_by x n e.reference ≡ None → Err AlreadyThere ≡ set_up x n e
+  pub holder_refused : stands_nowhere x n e.reference ≡ false → reserved_by x n e.reference ≡ None → set_up x n e ≡ Err AlreadyThere
   unfolding set_up
-  holder-refused = first_found (held_by x n e.reference) (reserved_by x n e.reference) _ _
+  holder_refused h none = sym (first_found (held_by x n e.reference) (reserved_by x n e.reference) _ _ h none)

@@ -40,6 +40,7 @@ fn blocked(e: Event) -> Refusal
 }
 
 // Tells whether the call with this reference stands on no circuit, neither as a holder nor as a reserver, in one walk.
+#[tactic(auto, using(crate::proofs::Nowhere::nowhere))]
 fn stands_nowhere(t: &[u8], reference: Reference) -> bool
     ensures { result ≡ stands_nowhere (circuit_at t.now) (circuits t.now) reference }
 {
@@ -60,6 +61,7 @@ fn set_up_reserver(t: &[u8], e: Event, i: usize) -> Outcome
 }
 
 // Decides a set-up by a call that stands somewhere: if it has reserved nothing, it holds.
+#[tactic(auto, using(crate::proofs::Named::reserved_below, crate::proofs::Nowhere::holder_refused))]
 fn set_up_known(t: &[u8], e: Event) -> Outcome
     requires { stands_nowhere (circuit_at t.now) (circuits t.now) e.reference ≡ false }
     ensures { result ≡ set_up (circuit_at t.now) (circuits t.now) e }
@@ -71,6 +73,7 @@ fn set_up_known(t: &[u8], e: Event) -> Outcome
 }
 
 // Decides a set-up. A call that stands nowhere, as most do that ask for a circuit, is told apart by one walk, and the choice is made.
+#[tactic(auto, using(crate::proofs::Nowhere::choice_made))]
 fn set_up(t: &[u8], e: Event) -> Outcome
     ensures { result ≡ set_up (circuit_at t.now) (circuits t.now) e }
 {
@@ -129,13 +132,12 @@ fn decision(t: &[u8], e: Event) -> Outcome
         Some(Kind::Cancel) => cancel(t, e),
         Some(Kind::NoService) => on_holder(t, e, Act::Unmark),
         Some(Kind::Answered) => on_holder(t, e, Act::Answered),
-        Some(Kind::Clock) => Ok(Deed::Clock),
-        None => Ok(Deed::Clock),
+        Some(Kind::Clock) | None => Ok(Deed::Clock),
     }
 }
 
 // Decides an event over a table, of which the verdict is known.
-#[tactic(auto, unfolding(rules::specs::Run::outcome_of))]
+#[tactic(auto, using(crate::proofs::Named::ready, crate::proofs::Named::fault_below), unfolding(rules::specs::Run::outcome_of, rules::specs::Records::records, rules::specs::Valid::valid))]
 pub fn outcome_of(t: &[u8], e: Event, verdict: Verdict) -> Outcome
     requires t_bound { circuits t.now ≤ most_circuits }
     requires verdict_value { verdict ≡ table.verdict records t.now }

@@ -30,12 +30,9 @@ fn act(t: &mut [u8], e: Event, a: Act, i: usize)
 {
     let c = table::circuit_at(t, i).made(e, a);
     match a {
-        Act::Seize => table::store(t, i, c),
-        Act::Reserve => table::store_reservation(t, i, c.reservation, c.clock),
-        Act::Release => table::store_holder(t, i, c.holder, c.ringing),
-        Act::Cancel => table::store_reservation(t, i, c.reservation, c.clock),
-        Act::Unmark => table::store(t, i, c),
-        Act::Answered => table::store_holder(t, i, c.holder, c.ringing),
+        Act::Seize | Act::Unmark => table::store(t, i, c),
+        Act::Reserve | Act::Cancel => table::store_reservation(t, i, c.reservation, c.clock),
+        Act::Release | Act::Answered => table::store_holder(t, i, c.holder, c.ringing),
     }
 }
 
@@ -53,14 +50,12 @@ fn relieve(t: &mut [u8], e: Event, i: usize)
 }
 
 // Removes every reservation that is overdue.
+#[tactic(auto, using(crate::proofs::Swept::swept_on, crate::proofs::Swept::swept_count))]
 fn sweep(t: &mut [u8], e: Event)
     ensures { t.new ≡ sweep_to records t.old e (circuits t.old) }
 {
-    let n = table::count(t);
-    let mut i = 0;
-    while i < n {
+    for i in 0..table::count(t) {
         relieve(t, e, i);
-        i += 1;
     }
 }
 

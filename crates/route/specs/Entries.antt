@@ -1,7 +1,8 @@
 -- This is 01, "Numbers given back": what one event, or a list, gives back and leaves in table and answers. At 20 no buffer is written.
-use Rattle.std.specs.Prelude.{ℕ, zero, suc, ◌+◌, ◌*◌, ◌/◌, Bool, cond, ◌&&◌, length, eqb}
+use Rattle.std.specs.Prelude.{ℕ, zero, suc, ◌+◌, ◌*◌, ◌/◌, Bool, cond, ◌&&◌, length, eqb, Result, Ok, Err}
 use mathlib.Core.List.{List, [], ◌∷◌, ◌++◌, flatten}
 use Rattle.rules.specs.declared.answer.Answer.{Answer}
+use Rattle.route.specs.declared.WrongLength.{WrongLength}
 use Rattle.rules.specs.Numbers.{done, wrong_length}
 use Rattle.rules.specs.Run.{after, answered, answer_record, run, answer_records}
 use Rattle.rules.specs.Records.{records, table_length, event_size, event_in, answer_size, list_length}
@@ -17,6 +18,10 @@ event_lengths t e a = table_length (length t) && (eqb (length e) event_size && e
 
 unfoldable pub event_number : List ℕ → List ℕ → List ℕ → ℕ  -- the number of the event's answer, or 20
 event_number t e a = cond (event_lengths t e a) (answered records t e).number wrong_length
+
+abbrev pub event_number_of : Result ℕ WrongLength → ℕ  -- the number by which the event entry's result is given back
+event_number_of (Ok number) = number
+event_number_of (Err refusal) = wrong_length
 
 unfoldable pub event_table : List ℕ → List ℕ → List ℕ → List ℕ  -- the table after the event
 event_table t e a = cond (event_lengths t e a) (after records t e) t
@@ -38,6 +43,10 @@ list_lengths t es places = table_length (length t) && list_length (length es) (l
 
 unfoldable pub list_number : List ℕ → List ℕ → List ℕ → ℕ  -- a list returns only 0 or 20
 list_number t es places = cond (list_lengths t es places) done wrong_length
+
+abbrev pub list_number_of : Result Unit WrongLength → ℕ  -- the number by which the list entry's result is given back
+list_number_of (Ok u) = done
+list_number_of (Err refusal) = wrong_length
 
 -- a list equals its events applied one by one
 unfoldable pub list_table : List ℕ → List ℕ → List ℕ → List ℕ

@@ -2,17 +2,32 @@
 
 #![tactic(auto)]
 
-ghost use Rattle.std.specs.Prelude.{◌≡◌, ◌&&◌, ◌+◌, ◌*◌, ◌/◌, ◌%◌, ◌≤◌, length, eqb};
+ghost use Rattle.std.specs.Prelude.{◌≡◌, ◌&&◌, ◌+◌, ◌*◌, ◌/◌, ◌%◌, ◌≤◌, length, eqb, is_ok};
 ghost use mathlib.Core.List.{flatten};
 ghost use Rattle.octets.specs.Span.{put};
 ghost use Rattle.rules.specs.Valid as table;
 ghost use Rattle.rules.specs.Run.{after, answered, answer_record, run, answer_records};
 ghost use Rattle.rules.specs.Records.{circuits, most_circuits, table_length, event_size, event_in, answer_size, list_length, records};
-ghost use Rattle.route.specs.Entries.{told, event_number, event_table, event_answer, events_to, list_number, list_table, list_answers};
+ghost use Rattle.route.specs.Entries.{told, event_lengths, event_number_of, event_number, event_table, event_answer, events_to, list_number_of, list_number, list_table, list_answers};
 
 use events::{ANSWER_SIZE, EVENT_SIZE, MOST_EVENTS};
 use rules::number;
 use rules::verdict::Verdict;
+
+// An event or a list is refused where a length is wrong.
+#[derive(Clone, Copy, PartialEq, Eq, Debug)]
+pub struct WrongLength;
+
+impl From<WrongLength> for u8 {
+    ghost use Rattle.std.specs.Prelude.{◌≡◌};
+    ghost use Rattle.rules.specs.Numbers.{wrong_length};
+
+    ghost from_gives = { λ refusal number. number ≡ wrong_length };
+
+    fn from(_refusal: WrongLength) -> u8 {
+        number::WRONG_LENGTH
+    }
+}
 
 // Applies event k to a table, writes its answer as answer k, and tells the number of the answer and the level under which a holder that it
 // lost stood, which no answer has. The verdict on the table is known. The answer names the losers, so it is made of the table as it was; each
@@ -54,26 +69,21 @@ pub fn level_told(told: u16) -> u8
 fn event_lengths(t: usize, e: usize, a: usize) -> bool
     ensures { result ≡ table_length t && (eqb e event_size && eqb a answer_size) }
 {
-    if !table::right_length(t) {
-        return false;
-    }
-    if e != EVENT_SIZE {
-        return false;
-    }
-    a == ANSWER_SIZE
+    table::right_length(t) && e == EVENT_SIZE && a == ANSWER_SIZE
 }
 
-// Applies one event: its number is given back and stands in the answer; at 20 nothing is written.
-pub fn event(t: &mut [u8], e: &[u8], a: &mut [u8]) -> u8
-    ensures number { result ≡ event_number t.old e.now a.old }
+// Applies one event, and gives the number that stands in its answer; where a length is wrong nothing is written.
+pub fn event(t: &mut [u8], e: &[u8], a: &mut [u8]) -> Result<u8, WrongLength>
+    ensures number { event_number_of result ≡ event_number t.old e.now a.old }
+    ensures lengths { is_ok result ≡ event_lengths t.old e.now a.old }
     ensures table { t.new ≡ event_table t.old e.now a.old }
     ensures answer { a.new ≡ event_answer t.old e.now a.old }
 {
     if !event_lengths(t.len(), e.len(), a.len()) {
-        return number::WRONG_LENGTH;
+        return Err(WrongLength);
     }
     let verdict = validity::verdict(t);
-    number_told(apply(t, e, a, 0, verdict))
+    Ok(number_told(apply(t, e, a, 0, verdict)))
 }
 
 // Tells whether the lengths of a table, its events and their answer places are right.
@@ -82,45 +92,34 @@ pub fn list_lengths(t: usize, es: usize, places: usize) -> bool
     ensures { result ≡ table_length t && list_length es places }
 {
     let n = es / EVENT_SIZE;
-    if !table::right_length(t) {
-        return false;
-    }
-    if es % EVENT_SIZE != 0 {
-        return false;
-    }
-    if MOST_EVENTS < n {
-        return false;
-    }
-    places == ANSWER_SIZE * n
+    table::right_length(t) && es % EVENT_SIZE == 0 && n <= MOST_EVENTS && places == ANSWER_SIZE * n
 }
 
 // Applies the first n events one after another. The table was looked at once, before them, since no event changes the verdict on it.
 fn each(t: &mut [u8], es: &[u8], places: &mut [u8], n: usize, verdict: Verdict)
     requires t_bound { circuits t.old ≤ most_circuits }
-    requires n_in_bounds { event_size * n ≤ length es.now }
-    requires n_in_bounds_2 { answer_size * n ≤ length places.old }
+    requires events_in_bounds { event_size * n ≤ length es.now }
+    requires answers_in_bounds { answer_size * n ≤ length places.old }
     requires verdict_value { verdict ≡ table.verdict records t.old }
     ensures table { t.new ≡ run records t.old (events_to es.now n) }
     ensures answers { places.new
         ≡ put places.old 0 (flatten (answer_records records t.old (events_to es.now n))) }
 {
-    let mut k = 0;
-    while k < n {
+    for k in 0..n {
         apply(t, es, places, k, verdict);
-        k += 1;
     }
 }
 
-// Applies a list of events and gives 0, or writes nothing and gives 20.
-pub fn list(t: &mut [u8], es: &[u8], places: &mut [u8]) -> u8
-    ensures number { result ≡ list_number t.old es.now places.old }
+// Applies a list of events; where a length is wrong nothing is written.
+pub fn list(t: &mut [u8], es: &[u8], places: &mut [u8]) -> Result<(), WrongLength>
+    ensures number { list_number_of result ≡ list_number t.old es.now places.old }
     ensures table { t.new ≡ list_table t.old es.now places.old }
     ensures answers { places.new ≡ list_answers t.old es.now places.old }
 {
     if !list_lengths(t.len(), es.len(), places.len()) {
-        return number::WRONG_LENGTH;
+        return Err(WrongLength);
     }
     let verdict = validity::verdict(t);
     each(t, es, places, es.len() / EVENT_SIZE, verdict);
-    number::DONE
+    Ok(())
 }

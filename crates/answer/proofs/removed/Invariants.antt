@@ -1,12 +1,9 @@
 -- The count is of the reservations that are overdue among the circuits passed.
-use Rattle.std.proofs.Common.{◌≡◌, ◌≤◌, ◌-◌}
+use Rattle.std.proofs.Common.{◌≡◌, ◌≤◌}
 use Rattle.rules.specs.Search.{count_to}
 use Rattle.rules.specs.Circuit.{overdue}
 use Rattle.rules.specs.Records.{circuit_at}
 use Rattle.answer.proofs.removed.Given as goal
 
 abbrev pub invariant-loop-i : goal.invariant-loop-i
-invariant-loop-i l = (l.i ≤ l.n) × (l.k ≡ count_to (λ i. overdue l.clock (circuit_at l.t i)) l.i)
-
-abbrev pub decreases-loop-i : goal.decreases-loop-i
-decreases-loop-i l = l.n - l.i
+invariant-loop-i l = (l.k ≤ l.i) × (l.k ≡ count_to (λ i. overdue l.clock (circuit_at l.t i)) l.i)

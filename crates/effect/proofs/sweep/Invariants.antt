@@ -1,11 +1,8 @@
 -- The table is swept as far as the loop has come.
-use Rattle.std.proofs.Common.{◌≡◌, ◌≤◌, ◌-◌}
+use Rattle.std.proofs.Common.{◌≡◌}
 use Rattle.rules.specs.Run.{sweep_to}
 use Rattle.rules.specs.Records.{records}
 use Rattle.effect.proofs.sweep.Given as goal
 
 abbrev pub invariant-loop-i : goal.invariant-loop-i
-invariant-loop-i l = (l.i ≤ l.n) × (l.t ≡ sweep_to records l.fn.t l.e l.i)
-
-abbrev pub decreases-loop-i : goal.decreases-loop-i
-decreases-loop-i l = l.n - l.i
+invariant-loop-i l = l.t ≡ sweep_to records l.fn.t l.e l.i

@@ -1,13 +1,10 @@
 -- The table and the answers after k events are what the first k events make of them.
-use Rattle.std.proofs.Common.{◌≡◌, ◌-◌, ◌≤◌, length}
+use Rattle.std.proofs.Common.{◌≡◌, length}
 use Rattle.octets.specs.Span.{put}
 use Rattle.route.proofs.Listed.{ran, given}
 use Rattle.route.proofs.each.Given as goal
 
 abbrev pub invariant-loop-k : goal.invariant-loop-k
 invariant-loop-k l =
-    (l.k ≤ l.n) × (l.t ≡ ran l.fn.t l.es l.k) × (l.places ≡ put l.fn.places 0 (given l.fn.t l.es l.k))
+    (l.t ≡ ran l.fn.t l.es l.k) × (l.places ≡ put l.fn.places 0 (given l.fn.t l.es l.k))
     × (length l.t ≡ length l.fn.t) × (length l.places ≡ length l.fn.places)
-
-abbrev pub decreases-loop-k : goal.decreases-loop-k
-decreases-loop-k l = l.n - l.k
