@@ -16,6 +16,7 @@ use rules::event::Event;
 use rules::number;
 use rules::outcome::{Act, Deed, Outcome};
 use rules::part::{Part, Reference};
+use table::Record;
 
 // Makes an answer that names a reservation as lost, if somebody has it, and no holder.
 fn may_lose(number: u8, detail: u16, reservation: Part) -> Answer
@@ -99,7 +100,11 @@ fn removed(t: &[u8], clock: u32) -> u16
 {
     let mut k: u16 = 0;
     for i in 0..table::count(t) {
-        k += u16::from(table::overdue_at(t, i, clock));
+        k += u16::from(Record {
+            table: t,
+            number: i,
+        }
+        .overdue(clock));
     }
     k
 }
@@ -113,7 +118,16 @@ pub fn answered(t: &[u8], e: Event, o: Outcome) -> Answer
 {
     match o {
         Err(refusal) => no_loser(u8::from(refusal), refusal.detail()),
-        Ok(Deed::Do(a, i)) => acted(e, a, i as u16, table::circuit_at(t, i)),
+        Ok(Deed::Do(a, i)) => acted(
+            e,
+            a,
+            i as u16,
+            Record {
+                table: t,
+                number: i,
+            }
+            .circuit(),
+        ),
         Ok(Deed::Clock) => no_loser(number::CLOCK_TAKEN, removed(t, e.clock)),
     }
 }

@@ -14,8 +14,9 @@ ghost use Rattle.rules.specs.Ready.{Ready};
 use rules::event::{Event, Kind};
 use rules::outcome::{Act, Deed, Outcome, Refusal};
 use rules::parameter;
-use rules::part::{Part, Reference};
+use rules::part::{Part, Reference, Side};
 use rules::verdict::Verdict;
+use table::Record;
 
 // Decides a set-up on its own reservation, which stands on circuit i.
 #[tactic(auto, unfolding(rules::specs::Decision::on_reservation))]
@@ -56,7 +57,7 @@ fn set_up_reserver(t: &[u8], e: Event, i: usize) -> Outcome
 {
     match choice::held_by(t, e.reference) {
         Some(_) => Err(Refusal::AlreadyThere),
-        None => on_reservation(e, table::reservation_at(t, i), i),
+        None => on_reservation(e, Record::new(t, i).part(Side::Reservation), i),
     }
 }
 

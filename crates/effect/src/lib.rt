@@ -12,13 +12,14 @@ ghost use Rattle.rules.specs.Ready.{Ready};
 
 use rules::event::Event;
 use rules::outcome::{Act, Deed, Outcome};
+use table::Record;
 
 // Makes circuit i anew by an act, and writes it whole.
 fn renew(t: &mut [u8], e: Event, a: Act, i: usize)
     requires { i < circuits t.old }
     ensures { t.new ≡ put_circuit t.old i (made e a (circuit_at t.old i)) }
 {
-    let c = table::circuit_at(t, i);
+    let c = Record::new(t, i).circuit();
     table::store(t, i, c.made(e, a));
 }
 
@@ -28,7 +29,7 @@ fn act(t: &mut [u8], e: Event, a: Act, i: usize)
     requires { Ready t.old (does a i) }
     ensures { t.new ≡ put_circuit t.old i (made e a (circuit_at t.old i)) }
 {
-    let c = table::circuit_at(t, i).made(e, a);
+    let c = Record::new(t, i).circuit().made(e, a);
     match a {
         Act::Seize | Act::Unmark => table::store(t, i, c),
         Act::Reserve | Act::Cancel => table::store_reservation(t, i, c.reservation, c.clock),
@@ -44,7 +45,7 @@ fn relieve(t: &mut [u8], e: Event, i: usize)
         (put_circuit t.old i (made e Act.Cancel (circuit_at t.old i)))
         t.old }
 {
-    if table::overdue_at(t, i, e.clock) {
+    if Record::new(t, i).overdue(e.clock) {
         renew(t, e, Act::Cancel, i);
     }
 }

@@ -6,9 +6,9 @@ use Rattle.effect.proofs.act.Goals as goal
 pub returns-in-Reserve : goal.returns-in-Reserve
 returns-in-Reserve c =
     let a = c.args in
-    holder_stays a.t.now a.i a.e (λ k. search rules) c.requires.1 c.requires.2 a.a c.circuit_at.ensures c.made-c.ensures c.in-Reserve.is c.store_reservation.ensures
+    holder_stays a.t.now a.i a.e (λ k. search rules) c.requires.1 c.requires.2 a.a (search rules) c.made-c.ensures c.in-Reserve.is c.store_reservation.ensures
 
 pub returns-in-Release : goal.returns-in-Release
 returns-in-Release c =
     let a = c.args in
-    reservation_stays a.t.now a.i a.e (λ k. search rules) c.requires.1 c.requires.2 a.a c.circuit_at.ensures c.made-c.ensures c.in-Release.is c.store_holder.ensures
+    reservation_stays a.t.now a.i a.e (λ k. search rules) c.requires.1 c.requires.2 a.a (search rules) c.made-c.ensures c.in-Release.is c.store_holder.ensures
