@@ -12,6 +12,7 @@ ghost use Rattle.references.specs.Filter.{stems, in_range, bits_in, already, sta
 ghost use Rattle.references.specs.Filter as filter;
 
 use rules::part::Reference;
+use table::Record;
 
 // The filter has so many words of 64 bits: 256 octets of stack.
 const WORDS: usize = 32;
@@ -35,7 +36,7 @@ fn stem(r: Reference) -> u64
     ensures stem { result ≡ filter.stem r }
     ensures below { result < stems }
 {
-    octets::join_four(r[0], r[1], r[2], r[3]) as u64 * 1540483477 % STEMS
+    u32::from_le_bytes([r[0], r[1], r[2], r[3]]) as u64 * 1540483477 % STEMS
 }
 
 // Gives a number in which each octet of a reference tells on many bits, so that the numbers of like references differ.
@@ -88,10 +89,10 @@ fn stands_on(t: &[u8], i: usize, r: Reference) -> bool
     requires { i < circuits t.now }
     ensures { result ≡ is_of r (part_numbered (circuit_at t.now) (2 * i)) || is_of r (part_numbered (circuit_at t.now) (2 * i + 1)) }
 {
-    if table::stands_in(t, i, 0, r) {
+    if Record { table: t, number: i }.stands_in(0, r) {
         return true;
     }
-    table::stands_in(t, i, 1, r)
+    Record { table: t, number: i }.stands_in(1, r)
 }
 
 // Tells whether the call with this reference stands on a circuit below i.
@@ -120,7 +121,7 @@ fn stands_before(t: &[u8], i: usize, side: usize, r: Reference) -> bool
         return true;
     }
     if side == 1 {
-        table::stands_in(t, i, 0, r)
+        Record { table: t, number: i }.stands_in(0, r)
     } else {
         false
     }
@@ -134,10 +135,10 @@ fn note(t: &[u8], w: &mut [u64; WORDS], i: usize, side: usize, from: u64, to: u6
     ensures twice { result ≡ repeated_in from to (circuit_at t.now) (2 * i + side) }
     ensures words { Seen (circuit_at t.now) from to w.new (2 * i + side + 1) }
 {
-    if !table::present_on(t, i, side) {
+    if !Record { table: t, number: i }.present_on(side) {
         return false;
     }
-    let r = table::reference_on(t, i, side);
+    let r = Record { table: t, number: i }.reference_on(side);
     if !may_repeat(w, r, from, to) {
         return false;
     }
@@ -179,7 +180,7 @@ fn reserved(t: &[u8], n: usize) -> usize
     let mut i = n;
     while 0 < i {
         i -= 1;
-        k += one(table::reserved_at(t, i));
+        k += one(Record { table: t, number: i }.reserved());
     }
     k
 }

@@ -41,14 +41,6 @@ pub struct Record<'a> {
 impl<'a> Record<'a> {
     ghost use Rattle.table.specs.Record.{circuit_in};
 
-    // Gives the record of circuit `number`.
-    pub fn new(table: &'a [u8], number: usize) -> Record<'a>
-        requires { number < circuits table.now }
-        ensures { (result.table.now ≡ table.now) × (result.number ≡ number) }
-    {
-        Record { table, number }
-    }
-
     // Gives the place in the table of octet k of the record.
     fn place(self, k: usize) -> usize
         requires { k ≤ 32 }

@@ -8,7 +8,8 @@ ghost use Rattle.rules.specs.Fields.{point_code_ok};
 ghost use Rattle.rules.specs.Valid.{if_present, held_under, reserved_under, levels_ok, fields_ok, pair_ok, record_verdict, records_to, parts_to};
 ghost use Rattle.rules.specs.Valid as rule;
 ghost use Rattle.rules.specs.Records.{circuit_at, circuits, flags_at, first_octets, records, checked};
-ghost use Rattle.validity.specs.Order.{fields_fit, part_in_order, rings_in_order, in_order};
+ghost use Rattle.table.specs.Record.{circuit_in};
+ghost use Rattle.validity.specs.Order.{fields_fit, part_in_order, rings_in_order, after_holder, in_order};
 ghost use Rattle.validity.specs.Order as order;
 ghost use Rattle.validity.specs.Code.{reason_digit, digit_of, code_of, reason_of, check_coded};
 
@@ -18,44 +19,29 @@ use rules::number;
 use rules::part::{Part, Reference};
 use rules::standing::Standing;
 use rules::verdict::{Check, Fault, Reason, Verdict};
+use table::Record;
 
-// Tells whether record i has no holder, or the holder's level is as it must be: one of the five, or that of no precedence.
-fn holder_level_ok(t: &[u8], i: usize) -> bool
-    requires { i < circuits t.now }
-    ensures { result ≡ if_present (circuit_at t.now i).holder (held_under (circuit_at t.now i).holder.mark) }
+// Tells whether a record has no holder, or the holder's level is as it must be: one of the five, or that of no precedence.
+fn holder_level_ok(r: Record) -> bool
+    ensures { result ≡ if_present (circuit_in r.entry).holder (held_under (circuit_in r.entry).holder.mark) }
 {
-    let p = table::holder_at(t, i);
-    if !p.present {
-        return true;
-    }
-    if p.mark.level.known() {
-        return true;
-    }
-    table::unmarked_at(t, i)
+    let p = r.holder();
+    !p.present || p.mark.level.known() || r.unmarked()
 }
 
 // Tells whether a reservation's part is absent, or its level is one of the five.
 fn reservation_level_ok(p: Part) -> bool
     ensures { result ≡ if_present p (reserved_under p.mark) }
 {
-    if p.present {
-        p.mark.level.known()
-    } else {
-        true
-    }
+    !p.present || p.mark.level.known()
 }
 
-// Tells whether the level of each part of record i that is present is as it must be.
+// Tells whether the level of each part of a record that is present is as it must be.
 #[tactic(auto, unfolding(rules::specs::Valid::levels_ok))]
-fn levels_ok(t: &[u8], i: usize) -> bool
-    requires { i < circuits t.now }
-    ensures { result ≡ levels_ok (circuit_at t.now i) }
+fn levels_ok(r: Record) -> bool
+    ensures { result ≡ levels_ok (circuit_in r.entry) }
 {
-    if holder_level_ok(t, i) {
-        reservation_level_ok(table::reservation_at(t, i))
-    } else {
-        false
-    }
+    holder_level_ok(r) && reservation_level_ok(r.reservation())
 }
 
 // Tells whether the two top bits of a reference's last octet, which are spare, are 0.
@@ -70,33 +56,22 @@ fn point_code_ok(reference: Reference) -> bool
 fn fields_fit(p: Part) -> bool
     ensures { result ≡ fields_fit p }
 {
-    let domain = p.mark.domain;
-    let reference = p.reference;
-    if rules::parameter::decimal(domain) {
-        point_code_ok(reference)
-    } else {
-        false
-    }
+    rules::parameter::decimal(p.mark.domain) && point_code_ok(p.reference)
 }
 
 // Tells whether a part is absent, or its digits and the spare bits of its reference are right.
 fn part_ok(p: Part) -> bool
     ensures { result ≡ if_present p (fields_fit p) }
 {
-    if p.present { fields_fit(p) } else { true }
+    !p.present || fields_fit(p)
 }
 
-// Tells whether the digits and the spare bits of each part of record i that is present are right.
+// Tells whether the digits and the spare bits of each part of a record that is present are right.
 #[tactic(auto, unfolding(rules::specs::Valid::fields_ok))]
-fn fields_ok(t: &[u8], i: usize) -> bool
-    requires { i < circuits t.now }
-    ensures { result ≡ fields_ok point_code_ok (circuit_at t.now i) }
+fn fields_ok(r: Record) -> bool
+    ensures { result ≡ fields_ok point_code_ok (circuit_in r.entry) }
 {
-    if part_ok(table::holder_at(t, i)) {
-        part_ok(table::reservation_at(t, i))
-    } else {
-        false
-    }
+    part_ok(r.holder()) && part_ok(r.reservation())
 }
 
 // Tells whether a reservation outranks the holder that it stands above, if there is one, and that holder may lose the circuit.
@@ -104,28 +79,18 @@ fn fields_ok(t: &[u8], i: usize) -> bool
 fn pair_ok(c: Circuit) -> bool
     ensures { result ≡ pair_ok c }
 {
-    if !c.holder.present {
+    if !c.holder.present || !c.reservation.present {
         return true;
     }
-    if !c.reservation.present {
-        return true;
-    }
-    if !Standing::preemptable(c.holder.present, c.holder.mark.level, c.ringing) {
-        return false;
-    }
-    c.reservation.mark.outranks(c.holder.mark)
+    Standing::preemptable(c.holder.present, c.holder.mark.level, c.ringing)
+        && c.reservation.mark.outranks(c.holder.mark)
 }
 
-// Tells whether the flags of record i are 0 or 1, and its levels as they must be.
-fn flags_and_levels(t: &[u8], i: usize) -> bool
-    requires { i < circuits t.now }
-    ensures { result ≡ flags_at t.now i && levels_ok (circuit_at t.now i) }
+// Tells whether the flags of a record are 0 or 1, and its levels as they must be.
+fn flags_and_levels(r: Record) -> bool
+    ensures { result ≡ flags_at r.entry.table.now r.entry.number && levels_ok (circuit_in r.entry) }
 {
-    if table::flags(t, i) {
-        levels_ok(t, i)
-    } else {
-        false
-    }
+    r.flags() && levels_ok(r)
 }
 
 // Gives the last digit of a reason's number.
@@ -135,22 +100,21 @@ fn digit(reason: Reason) -> u64
     u64::from(u8::from(reason) - 40)
 }
 
-// Gives the last digit of the number of the first reason that applies to record i by itself, or 0 where none does.
+// Gives the last digit of the number of the first reason that applies to a record by itself, or 0 where none does.
 #[tactic(auto, unfolding(rules::specs::Valid::record_verdict, rules::specs::Records::records, crate::specs::Code::digit_of))]
-fn record(t: &[u8], i: usize) -> u64
-    requires { i < circuits t.now }
-    ensures { result ≡ digit_of (record_verdict records t.now i) }
+fn first_reason(r: Record) -> u64
+    ensures { result ≡ digit_of (record_verdict records r.entry.table.now r.entry.number) }
 {
-    if !flags_and_levels(t, i) {
+    if !flags_and_levels(r) {
         return digit(Reason::FlagOrLevel);
     }
-    if !fields_ok(t, i) {
+    if !fields_ok(r) {
         return digit(Reason::DigitOrPointCode);
     }
-    if !table::blank(t, i) {
+    if !r.blank() {
         return digit(Reason::NotZero);
     }
-    if !pair_ok(table::circuit_at(t, i)) {
+    if !pair_ok(r.circuit()) {
         return digit(Reason::NotAbove);
     }
     0
@@ -160,79 +124,58 @@ fn record(t: &[u8], i: usize) -> u64
 fn fit(p: Part) -> bool
     ensures { result ≡ order.fit p }
 {
-    if p.mark.level.known() {
-        fields_fit(p)
-    } else {
-        false
-    }
+    p.mark.level.known() && fields_fit(p)
 }
 
-// Tells whether the holder's part of record i is present and fit, or its first octets are zero.
-fn holder_in_order(t: &[u8], i: usize) -> bool
-    requires { i < circuits t.now }
-    ensures { result ≡ part_in_order (circuit_at t.now i).holder (first_octets t.now i) }
+// Tells whether the holder's part of a record is present and fit, or its first octets are zero.
+fn holder_in_order(r: Record) -> bool
+    ensures { result ≡ part_in_order (circuit_in r.entry).holder (first_octets r.entry.table.now r.entry.number) }
 {
-    let p = table::holder_at(t, i);
-    if p.present {
-        fit(p)
-    } else {
-        table::first_zero(t, i)
-    }
+    let p = r.holder();
+    if p.present { fit(p) } else { r.first_zero() }
 }
 
-// Tells whether record i has a holder that rings, and no reservation: the reservation's part is zero, and of the last four octets the others.
-fn rings_in_order(t: &[u8], i: usize) -> bool
-    requires { i < circuits t.now }
-    ensures { result ≡ rings_in_order t.now i }
+// Tells whether a record has a holder that rings, and no reservation: the reservation's part is zero, and of the last four octets the others.
+fn rings_in_order(r: Record) -> bool
+    ensures { result ≡ rings_in_order r.entry.table.now r.entry.number }
 {
-    if !table::held_at(t, i) {
-        return false;
-    }
-    if !table::tail_rings(t, i) {
-        return false;
-    }
-    table::reservation_zero(t, i)
+    r.held() && r.tail_rings() && r.reservation_zero()
 }
 
 // Tells whether nobody holds the circuit, or one whom its reservation outranks.
 fn above(c: Circuit) -> bool
     ensures { result ≡ order.above c }
 {
-    if c.holder.present {
-        c.reservation.mark.outranks(c.holder.mark)
-    } else {
-        true
-    }
+    !c.holder.present || c.reservation.mark.outranks(c.holder.mark)
 }
 
-// Tells whether record i is in order: then no reason applies to it. Only where there is a reservation are the two parts held against each
-// other. A holder that rings is judged apart.
+// Tells whether a record is in order after its holder's part. Only where there is a reservation are the two parts held against each other. A
+// holder that rings is judged apart.
+fn after_holder(r: Record) -> bool
+    ensures { result ≡ after_holder r.entry.table.now r.entry.number }
+{
+    if !r.tail_zero() {
+        return rings_in_order(r);
+    }
+    if !r.reserved() {
+        return r.reservation_zero();
+    }
+    fit(r.reservation()) && above(r.circuit())
+}
+
+// Tells whether a record is in order: then no reason applies to it.
 #[tactic(auto, unfolding(crate::specs::Order::in_order))]
-fn in_order(t: &[u8], i: usize) -> bool
-    requires { i < circuits t.now }
-    ensures { result ≡ in_order t.now i }
+fn in_order(r: Record) -> bool
+    ensures { result ≡ in_order r.entry.table.now r.entry.number }
 {
-    if !holder_in_order(t, i) {
-        return false;
-    }
-    if !table::tail_zero(t, i) {
-        return rings_in_order(t, i);
-    }
-    if !table::reserved_at(t, i) {
-        return table::reservation_zero(t, i);
-    }
-    if !fit(table::reservation_at(t, i)) {
-        return false;
-    }
-    above(table::circuit_at(t, i))
+    holder_in_order(r) && after_holder(r)
 }
 
-// Gives what `record` gives of record i. A holder under no precedence is not in order, and it is for `record` to find nothing there.
-fn judged(t: &[u8], i: usize) -> u64
-    requires { i < circuits t.now }
-    ensures { result ≡ digit_of (record_verdict records t.now i) }
+// Gives what `first_reason` gives of a record. A holder under no precedence is not in order, and it is for `first_reason` to find nothing there.
+fn judged(r: Record) -> u64
+    ensures { result ≡ digit_of (record_verdict records r.entry.table.now r.entry.number) }
 {
-    if in_order(t, i) { 0 } else { record(t, i) }
+    if in_order(r) { 0 } else { first_reason(r) }
 }
 
 // Gives the code of a fault: 8 times its record and the last digit of its reason's number. A valid table has the code 0. Inside this crate a
@@ -251,7 +194,7 @@ fn each_record(t: &[u8]) -> u64
     let n = table::count(t);
     let mut i = 0;
     while i < n {
-        let found = judged(t, i);
+        let found = judged(Record { table: t, number: i });
         if found != 0 {
             return code(found, i);
         }
