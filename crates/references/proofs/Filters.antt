@@ -16,11 +16,14 @@ use Rattle.octets.proofs.Tests.{and_left, and_right, by_eq, by_so, not_so, secon
 use Rattle.octets.proofs.Sames.{same_true}
 use Rattle.octets.proofs.Spans.{grow}
 use Rattle.rules.specs.declared.part.Part.{Part}
+use Rattle.rules.specs.declared.part.Side.{Side}
+use Rattle.rules.specs.declared.part.Side.TheVariants.{Holder, Reservation}
 use Rattle.rules.specs.declared.circuit.Circuit.{Circuit}
 use Rattle.std.specs.Prelude.{Option, Some, None}
-use Rattle.rules.specs.Circuit.{is_of}
+use Rattle.rules.specs.Circuit.{part_on, is_of}
 use Rattle.rules.specs.Search.{or_else, first_to, found}
-use Rattle.rules.specs.Valid.{part_numbered, clash, repeated}
+use Rattle.rules.specs.Valid.{part_numbered, side_number, clash, repeated}
+use Rattle.rules.proofs.Numbered.{by_side, even, odd}
 use Rattle.rules.proofs.Searches.{first_cong, nothing-found, some-found}
 use Rattle.references.specs.Filter.{spread, word_of, bits_in, word_for, already, in_range, stands_to, repeated_in, Grown, Seen}
 
@@ -97,6 +100,11 @@ no_clash p q h =
     h (and_left p.present q.present l) (and_right p.present q.present l) (same_true p.reference q.reference (and_right (p.present && q.present) (same p.reference q.reference) e)))
 
 -- ---- searches
+-- the part on a side of circuit i by its number
+pub on_side : (x : ℕ → Circuit) (i : ℕ) (side : Side) → part_numbered x (2 * i + side_number side) ≡ part_on side (x i)
+on_side x i Holder = by_side (λ j. (x j).holder) (λ j. (x j).reservation) i 0 (omega arith)
+on_side x i Reservation = by_side (λ j. (x j).holder) (λ j. (x j).reservation) i 1 (omega arith)
+
 module _ (x : ℕ → Circuit) (r : List ℕ) where
   -- the call stands in part k
   pub stands_at : (n k : ℕ) → k < n → is_of r (part_numbered x k) ≡ true → stands_to x r n ≡ true
@@ -114,6 +122,34 @@ module _ (x : ℕ → Circuit) (r : List ℕ) where
   stands_more n =
       ap (λ (m : ℕ). found (first_to (λ i. is_of r (part_numbered x i)) m) (λ i. true) false) (add-one n)
       ∙ one_more (first_to (λ i. is_of r (part_numbered x i)) n) (is_of r (part_numbered x n)) n
+
+  abbrev on_circuit : ℕ → Bool  -- the call stands on circuit i
+  on_circuit i = is_of r (x i).holder || is_of r (x i).reservation
+
+  pub stands_none : stands_to x r (2 * 0) ≡ false
+  unfolding stands_to
+  stands_none = refl
+
+  -- the holder of circuit i stands before its reservation
+  pub stands_between : (i : ℕ) → stands_to x r (2 * i + 1) ≡ stands_to x r (2 * i) || is_of r (x i).holder
+  stands_between i = stands_more (2 * i) ∙ ap (λ (p : Part). stands_to x r (2 * i) || is_of r p) (even (λ j. (x j).holder) (λ j. (x j).reservation) i)
+
+  -- one circuit more
+  pub stands_next : (i : ℕ) → stands_to x r (2 * i) ≡ false → on_circuit i ≡ false → stands_to x r (2 * (i + 1)) ≡ false
+  stands_next i h e =
+      let next : 2 * (i + 1) ≡ 2 * i + 1 + 1 = omega arith in
+      let none = neither (is_of r (x i).holder) (is_of r (x i).reservation) e in
+      ap (stands_to x r) next ∙ stands_more (2 * i + 1)
+      ∙ ap₂ (λ (a b : Bool). a || b) (stands_between i ∙ ap₂ (λ (a b : Bool). a || b) h none.0)
+      (ap (is_of r) (odd (λ j. (x j).holder) (λ j. (x j).reservation) i) ∙ none.1)
+
+  -- it stands on circuit k
+  pub stands_there : (k n : ℕ) → k < n → on_circuit k ≡ true → true ≡ stands_to x r (2 * n)
+  stands_there k n l e =
+      sym
+      (by_so (is_of r (x k).holder)
+      (λ h. stands_at (2 * n) (2 * k) (omega arith) (ap (is_of r) (even (λ j. (x j).holder) (λ j. (x j).reservation) k) ∙ h))
+      (λ h. stands_at (2 * n) (2 * k + 1) (omega arith) (ap (is_of r) (odd (λ j. (x j).holder) (λ j. (x j).reservation) k) ∙ ap (λ (b : Bool). b || is_of r (x k).reservation) (sym h) ∙ e)))
 
 -- ---- part j, before which those in range are in filter w
 module _ (x : ℕ → Circuit) (j : ℕ) where

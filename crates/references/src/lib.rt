@@ -6,12 +6,13 @@
 ghost use Rattle.std.specs.Prelude.{◌≡◌, true, cond, ◌&&◌, ◌||◌, ◌+◌, ◌*◌, ◌<◌, ◌≤◌, length, ltb};
 ghost use Rattle.rules.specs.Circuit.{is_of};
 ghost use Rattle.rules.specs.Search.{first_to};
-ghost use Rattle.rules.specs.Valid.{part_numbered, repeated};
+ghost use Rattle.rules.specs.Valid.{side_number, repeated};
 ghost use Rattle.rules.specs.Records.{circuits, circuit_at};
+ghost use Rattle.table.specs.Record.{circuit_in};
 ghost use Rattle.references.specs.Filter.{stems, in_range, bits_in, already, stands_to, repeated_in, lowest_to, Grown, Seen};
 ghost use Rattle.references.specs.Filter as filter;
 
-use rules::part::Reference;
+use rules::part::{Reference, Side};
 use table::Record;
 
 // The filter has so many words of 64 bits: 256 octets of stack.
@@ -36,7 +37,7 @@ fn stem(r: Reference) -> u64
     ensures stem { result ≡ filter.stem r }
     ensures below { result < stems }
 {
-    u32::from_le_bytes([r[0], r[1], r[2], r[3]]) as u64 * 1540483477 % STEMS
+    u64::from(octets::read_number(&r, 0)) * 1540483477 % STEMS
 }
 
 // Gives a number in which each octet of a reference tells on many bits, so that the numbers of like references differ.
@@ -84,65 +85,54 @@ fn may_repeat(w: &mut [u64; WORDS], r: Reference, from: u64, to: u64) -> bool
     set_bits(w, r)
 }
 
-// Tells whether the call with this reference stands on circuit i.
-fn stands_on(t: &[u8], i: usize, r: Reference) -> bool
-    requires { i < circuits t.now }
-    ensures { result ≡ is_of r (part_numbered (circuit_at t.now) (2 * i)) || is_of r (part_numbered (circuit_at t.now) (2 * i + 1)) }
+// Tells whether the call with this reference stands on a circuit.
+fn stands_on(circuit: Record, r: Reference) -> bool
+    ensures { result ≡ is_of r (circuit_in circuit.entry).holder || is_of r (circuit_in circuit.entry).reservation }
 {
-    if Record { table: t, number: i }.stands_in(0, r) {
-        return true;
-    }
-    Record { table: t, number: i }.stands_in(1, r)
+    circuit.stands_in(Side::Holder, r) || circuit.stands_in(Side::Reservation, r)
 }
 
 // Tells whether the call with this reference stands on a circuit below i.
+#[tactic(auto, using(crate::proofs::Filters::stands_none, crate::proofs::Filters::stands_next))]
 pub fn stands_below(t: &[u8], i: usize, r: Reference) -> bool
     requires { i ≤ circuits t.now }
     ensures { result ≡ stands_to (circuit_at t.now) r (2 * i) }
 {
-    let mut k = 0;
-    while k < i {
-        if stands_on(t, k, r) {
+    for number in 0..i {
+        if stands_on(Record { table: t, number }, r) {
             return true;
         }
-        k += 1;
     }
     false
 }
 
-// Tells whether the call with this reference stands in a part before that of circuit i on a side, its holder's included before its
+// Tells whether the call with this reference stands in a part before that of a circuit on a side, its holder's included before its
 // reservation's.
-fn stands_before(t: &[u8], i: usize, side: usize, r: Reference) -> bool
-    requires i_bound { i < circuits t.now }
-    requires side_bound { side < 2 }
-    ensures { result ≡ stands_to (circuit_at t.now) r (2 * i + side) }
+#[tactic(auto, using(crate::proofs::Filters::stands_between))]
+fn stands_before(circuit: Record, side: Side, r: Reference) -> bool
+    ensures { result ≡ stands_to (circuit_at circuit.entry.table.now) r (2 * circuit.entry.number + side_number side) }
 {
-    if stands_below(t, i, r) {
-        return true;
-    }
-    if side == 1 {
-        Record { table: t, number: i }.stands_in(0, r)
-    } else {
-        false
+    let below = stands_below(circuit.table, circuit.number, r);
+    match side {
+        Side::Holder => below,
+        Side::Reservation => below || circuit.stands_in(Side::Holder, r),
     }
 }
 
-// Notes the reference of circuit i on a side, if that part is present and in range, and tells whether it stands in an earlier part.
-fn note(t: &[u8], w: &mut [u64; WORDS], i: usize, side: usize, from: u64, to: u64) -> bool
-    requires i_bound { i < circuits t.now }
-    requires side_bound { side < 2 }
-    requires seen { Seen (circuit_at t.now) from to w.old (2 * i + side) }
-    ensures twice { result ≡ repeated_in from to (circuit_at t.now) (2 * i + side) }
-    ensures words { Seen (circuit_at t.now) from to w.new (2 * i + side + 1) }
+// Notes the reference of a circuit on a side, if that part is present and in range, and tells whether it stands in an earlier part.
+fn note(circuit: Record, w: &mut [u64; WORDS], side: Side, from: u64, to: u64) -> bool
+    requires { Seen (circuit_at circuit.table.now) from to w.old (2 * circuit.number + side_number side) }
+    ensures twice { result ≡ repeated_in from to (circuit_at circuit.entry.table.now) (2 * circuit.entry.number + side_number side) }
+    ensures words { Seen (circuit_at circuit.entry.table.now) from to w.new (2 * circuit.entry.number + side_number side + 1) }
 {
-    if !Record { table: t, number: i }.present_on(side) {
+    if !circuit.present(side) {
         return false;
     }
-    let r = Record { table: t, number: i }.reference_on(side);
+    let r = circuit.reference(side);
     if !may_repeat(w, r, from, to) {
         return false;
     }
-    stands_before(t, i, side, r)
+    stands_before(circuit, side, r)
 }
 
 // Goes through all parts of n circuits and gives the first that is in range and whose reference stands in an earlier part; where there is none, their
@@ -152,23 +142,16 @@ fn pass(t: &[u8], n: usize, from: u64, to: u64) -> usize
     ensures { result ≡ lowest_to (repeated_in from to (circuit_at t.now)) (2 * n) }
 {
     let mut w = [0u64; WORDS];
-    let mut i = 0;
-    while i < n {
-        if note(t, &mut w, i, 0, from, to) {
-            return 2 * i;
+    for number in 0..n {
+        let circuit = Record { table: t, number };
+        if note(circuit, &mut w, Side::Holder, from, to) {
+            return 2 * number;
         }
-        if note(t, &mut w, i, 1, from, to) {
-            return 2 * i + 1;
+        if note(circuit, &mut w, Side::Reservation, from, to) {
+            return 2 * number + 1;
         }
-        i += 1;
     }
     2 * n
-}
-
-fn one(counts: bool) -> usize
-    ensures { result ≤ 1 }
-{
-    if counts { 1 } else { 0 }
 }
 
 // Counts how many of the first n circuits are reserved, from the last down: the loop then needs a register less.
@@ -176,13 +159,11 @@ fn reserved(t: &[u8], n: usize) -> usize
     requires { n ≤ circuits t.now }
     ensures { result ≤ n }
 {
-    let mut k = 0;
-    let mut i = n;
-    while 0 < i {
-        i -= 1;
-        k += one(Record { table: t, number: i }.reserved());
+    let mut count = 0;
+    for number in (0..n).rev() {
+        count += usize::from(Record { table: t, number }.present(Side::Reservation));
     }
-    k
+    count
 }
 
 // Gives how many stems a pass over n circuits takes. Nearly every circuit may be held, and few are reserved, so the reservations are counted.

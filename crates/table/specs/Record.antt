@@ -1,4 +1,4 @@
--- A record is a place in a table: what stands there is read by its table and its number.
+-- A record is one of a table, by its number: what stands there is read of the two.
 use Rattle.rules.specs.declared.circuit.Circuit.{Circuit}
 use Rattle.rules.specs.Records.{circuit_at}
 use Rattle.table.specs.declared.record.Record.{Record}

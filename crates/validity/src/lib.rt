@@ -16,7 +16,7 @@ ghost use Rattle.validity.specs.Code.{reason_digit, digit_of, code_of, reason_of
 use rules::answer::NO_DETAIL;
 use rules::circuit::Circuit;
 use rules::number;
-use rules::part::{Part, Reference};
+use rules::part::{Part, Reference, Side};
 use rules::standing::Standing;
 use rules::verdict::{Check, Fault, Reason, Verdict};
 use table::Record;
@@ -25,7 +25,7 @@ use table::Record;
 fn holder_level_ok(r: Record) -> bool
     ensures { result ≡ if_present (circuit_in r.entry).holder (held_under (circuit_in r.entry).holder.mark) }
 {
-    let p = r.holder();
+    let p = r.part(Side::Holder);
     !p.present || p.mark.level.known() || r.unmarked()
 }
 
@@ -41,7 +41,7 @@ fn reservation_level_ok(p: Part) -> bool
 fn levels_ok(r: Record) -> bool
     ensures { result ≡ levels_ok (circuit_in r.entry) }
 {
-    holder_level_ok(r) && reservation_level_ok(r.reservation())
+    holder_level_ok(r) && reservation_level_ok(r.part(Side::Reservation))
 }
 
 // Tells whether the two top bits of a reference's last octet, which are spare, are 0.
@@ -71,7 +71,7 @@ fn part_ok(p: Part) -> bool
 fn fields_ok(r: Record) -> bool
     ensures { result ≡ fields_ok point_code_ok (circuit_in r.entry) }
 {
-    part_ok(r.holder()) && part_ok(r.reservation())
+    part_ok(r.part(Side::Holder)) && part_ok(r.part(Side::Reservation))
 }
 
 // Tells whether a reservation outranks the holder that it stands above, if there is one, and that holder may lose the circuit.
@@ -131,7 +131,7 @@ fn fit(p: Part) -> bool
 fn holder_in_order(r: Record) -> bool
     ensures { result ≡ part_in_order (circuit_in r.entry).holder (first_octets r.entry.table.now r.entry.number) }
 {
-    let p = r.holder();
+    let p = r.part(Side::Holder);
     if p.present { fit(p) } else { r.first_zero() }
 }
 
@@ -139,7 +139,7 @@ fn holder_in_order(r: Record) -> bool
 fn rings_in_order(r: Record) -> bool
     ensures { result ≡ rings_in_order r.entry.table.now r.entry.number }
 {
-    r.held() && r.tail_rings() && r.reservation_zero()
+    r.present(Side::Holder) && r.tail_rings() && r.reservation_zero()
 }
 
 // Tells whether nobody holds the circuit, or one whom its reservation outranks.
@@ -157,10 +157,10 @@ fn after_holder(r: Record) -> bool
     if !r.tail_zero() {
         return rings_in_order(r);
     }
-    if !r.reserved() {
+    if !r.present(Side::Reservation) {
         return r.reservation_zero();
     }
-    fit(r.reservation()) && above(r.circuit())
+    fit(r.part(Side::Reservation)) && above(r.circuit())
 }
 
 // Tells whether a record is in order: then no reason applies to it.

@@ -2,8 +2,5 @@
 use Rattle.std.proofs.Common.{◌+◌, ◌≤◌}
 use Rattle.references.proofs.reserved.Given as goal
 
-abbrev pub invariant-loop-i : goal.invariant-loop-i
-invariant-loop-i l = l.k + l.i ≤ l.n
-
-abbrev pub decreases-loop-i : goal.decreases-loop-i
-decreases-loop-i l = l.i
+abbrev pub invariant-loop-number : goal.invariant-loop-number
+invariant-loop-number l = l.count + l.number ≤ l.n
