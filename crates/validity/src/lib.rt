@@ -191,14 +191,11 @@ fn code(digit: u64, i: usize) -> u64
 fn each_record(t: &[u8]) -> u64
     ensures { result ≡ code_of (records_to records t.now (circuits t.now)) }
 {
-    let n = table::count(t);
-    let mut i = 0;
-    while i < n {
-        let found = judged(Record { table: t, number: i });
+    for number in 0..table::count(t) {
+        let found = judged(Record { table: t, number });
         if found != 0 {
-            return code(found, i);
+            return code(found, number);
         }
-        i += 1;
     }
     0
 }

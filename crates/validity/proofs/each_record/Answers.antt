@@ -20,25 +20,26 @@ follows t e =
 pub code-requires : goal.code-requires
 code-requires c =
     let digit = c.judged-found.ensures in
-    omega (arith, c.loop-i.invariant.2, digit_below (record_verdict records c.args.t.now c.loop-i.i))
+    let n = c.count-number-end.ensures in
+    omega (arith, digit_below (record_verdict records c.args.t.now c.loop-number.number))
 
 pub returns-then-found-ne0 : goal.returns-then-found-ne0
 returns-then-found-ne0 c =
     let t = c.args.t.now in
-    let i = c.loop-i.i in
+    let i = c.loop-number.number in
     let digit = c.judged-found.ensures in
     let fault = digit-fault (record_verdict records t i) (λ z. c.if-found-ne0.true (digit ∙ z)) in
     c.code.ensures ∙ ap (λ (d : ℕ). 8 * i + d) digit ∙ located records t i fault
-    ∙ follows t (first_of (bad records t) (circuits t) i (let n = c.loop-i.invariant.2 in omega arith) c.loop-i.invariant.1 (ap not fault))
+    ∙ follows t (first_of (bad records t) (circuits t) i (let n = c.count-number-end.ensures in omega arith) c.loop-number.invariant (ap not fault))
 
-pub loop-i-preserved : goal.loop-i-preserved
-loop-i-preserved c =
+pub loop-number-preserved : goal.loop-number-preserved
+loop-number-preserved c =
     let t = c.args.t.now in
-    let sound = digit-zero (record_verdict records t c.loop-i.i) (sym c.judged-found.ensures ∙ c.if-found-ne0.false) in
-    (omega arith, below_more _ _ c.loop-i.invariant.1 (ap not sound), c.loop-i.invariant.2)
+    let sound = digit-zero (record_verdict records t c.loop-number.number) (sym c.judged-found.ensures ∙ c.if-found-ne0.false) in
+    below_more _ _ c.loop-number.invariant (ap not sound)
 
 pub returns : goal.returns
 unfolding code_of
 returns c =
     let t = c.args.t.now in
-    follows t (first_none (bad records t) (circuits t) (λ j l. c.loop-i.invariant.1 j (let n = c.loop-i.invariant.2 in omega arith)))
+    follows t (first_none (bad records t) (circuits t) (λ j l. c.loop-number.invariant j (let n = c.count-number-end.ensures in omega arith)))
