@@ -1,6 +1,6 @@
-pub mod Joined
+pub mod Extended
 pub mod Decimals
 pub mod Lengths
-pub mod Parties
-pub mod Lamps
+pub mod Joined
 pub mod Rows
+pub mod Takers

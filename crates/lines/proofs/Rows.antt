@@ -24,7 +24,7 @@ one-letter false = refl
 module _ (w : ℕ) where
   lamps-length : (n : ℕ) → length (lamps_to w n) ≡ n
   lamps-length zero = refl
-  lamps-length (suc n) = omega (arith, length-append (lamps_to w n) (lamp (bit w n)), lamps-length n, one-letter (bit w n))
+  lamps-length (suc n) = simp length-append (omega (arith, lamps-length n, one-letter))
 
   lamps_at : (n i : ℕ) → i < n → get_or (lamps_to w n) i 0 ≡ get_or (lamp (bit w i)) 0 0
   lamps_at zero i l = absurd (not-suc-le-zero l)
@@ -43,7 +43,7 @@ module _ (w : ℕ) where
   row_at i l = get_or-append (lamps_to w 64) (letters "\n") 0 i (omega (arith, lamps-length 64)) ∙ lamps_at 64 i l
 
 module _ (words : List ℕ) where
-  rows-length : (n : ℕ) → length (rows_to words n) ≡ 65 * n
+  pub rows-length : (n : ℕ) → length (rows_to words n) ≡ 65 * n
   rows-length zero = refl
   rows-length (suc n) = omega (arith, length-append (rows_to words n) (row (get_or words n 0)), rows-length n, row-length (get_or words n 0))
 

@@ -1,4 +1,5 @@
 pub mod Text
+pub mod Extended
 pub mod Event
 pub mod Panel
 pub mod Figures

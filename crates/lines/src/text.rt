@@ -1,60 +1,77 @@
-// Letters and decimal numbers are written from octet `at` on, and the octet after them comes back. Texts that go to the writers below are
-// shorter than 5,000 octets, so that `at` never wraps.
-ghost use Rattle.std.specs.Prelude.{◌≡◌, ◌++◌, ◌+◌, ◌≤◌, length, set};
+// A text is written into a lent buffer, one part after the other. What does not fit is left out, and the length is that of the whole text.
+ghost use Rattle.std.specs.Prelude.{◌≡◌, ◌++◌};
 ghost use Rattle.lines.specs.Text.{letters, decimal, Written};
 ghost use Rattle.lines.specs.Text as rule;
+ghost use Rattle.lines.specs.Extended.{extended};
 
-// Writes one letter, where it has room.
-pub fn letter(out: &mut [u8], at: usize, c: u8)
-    ensures { out.new ≡ set out.old at c }
-{
-    if at < out.len() {
-        out[at] = c;
+// This is a text as far as it is written: the buffer, and the length of the text, which may be more than the buffer holds.
+#[derive(Drop)]
+pub struct Text<'a> {
+    out: &'a mut [u8],
+    at: usize,
+}
+
+impl<'a> Text<'a> {
+    // Begins a text in a buffer.
+    pub fn new(out: &'a mut [u8]) -> Text<'a>
+        ensures same { result.out.ghost_name ≡ out.entry.ghost_name }
+        ensures now { result.out.now ≡ out.old }
+        ensures at { result.at ≡ 0 }
+    {
+        Text { out, at: 0 }
+    }
+
+    // Gives the length of the text.
+    pub fn length(&self) -> usize
+        ensures { result ≡ self.now.at }
+    {
+        self.at
+    }
+
+    // Writes letters, as far as the buffer has room.
+    pub fn put(&mut self, letters: &[u8])
+        ensures { self.new ≡ extended self.old letters.now }
+    {
+        let out = &mut *self.out;
+        let from = self.at.min(out.len());
+        let n = letters.len().min(out.len() - from);
+        out[from..from + n].copy_from_slice(&letters[..n]);
+        self.at = self.at.saturating_add(letters.len());
+    }
+
+    // Writes a number, in as few digits as hold it.
+    // The digits come from `io`, since `write!` promises nothing of what it has written where it gives an `Err`, and not that it gives none.
+    pub fn number(&mut self, n: u64)
+        ensures { self.new ≡ extended self.old (decimal n) }
+    {
+        let mut digits = [0u8; 20];
+        let k = io::decimal(n, &mut digits);
+        self.put(&digits[..k]);
+    }
+
+    // Writes a number after a space.
+    pub fn field(&mut self, n: u64)
+        ensures { self.new ≡ extended self.old (rule.field (decimal n)) }
+    {
+        self.put(b" ");
+        self.number(n);
+    }
+
+    // Writes a word, a number and the end of the line.
+    pub fn numbered(&mut self, word: &[u8], n: u64)
+        ensures { self.new ≡ extended self.old (word.now ++ decimal n ++ letters "\n") }
+    {
+        self.put(word);
+        self.number(n);
+        self.put(b"\n");
     }
 }
 
-// Writes letters one after the other.
-pub fn put(out: &mut [u8], at: usize, text: &[u8]) -> usize
-    requires { at + length text.now ≤ 5000 }
-    ensures { Written out.old at text.now out.new result }
+// Writes one line alone. Such a line has a function of its own that calls this, since the text is what its contract promises.
+pub fn whole(out: &mut [u8], line: &[u8]) -> usize
+    ensures { Written out.old 0 line.now out.new result }
 {
-    let mut k = 0;
-    while k < text.len() {
-        letter(out, at + k, text[k]);
-        k += 1;
-    }
-    at + k
-}
-
-// Writes a number, in as few digits as hold it.
-pub fn number(out: &mut [u8], at: usize, n: u64) -> usize
-    requires { at ≤ 4900 }
-    ensures text { Written out.old at (decimal n) out.new result }
-    ensures end { result ≤ at + 20 }
-{
-    let mut digits = [0u8; 20];
-    let k = io::decimal(n, &mut digits);
-    put(out, at, &digits[..k])
-}
-
-// Writes a number after a space.
-pub fn field(out: &mut [u8], at: usize, n: u64) -> usize
-    requires { at ≤ 4800 }
-    ensures text { Written out.old at (rule.field (decimal n)) out.new result }
-    ensures end { result ≤ at + 21 }
-{
-    let from = put(out, at, b" ");
-    number(out, from, n)
-}
-
-// Writes a word, a number and the end of the line.
-pub fn numbered(out: &mut [u8], at: usize, word: &[u8], n: u64) -> usize
-    requires at_bound { at ≤ 4800 }
-    requires word_len_bound { length word.now ≤ 20 }
-    ensures text { Written out.old at (word.now ++ decimal n ++ letters "\n") out.new result }
-    ensures end { result ≤ at + 41 }
-{
-    let from = put(out, at, word);
-    let end = number(out, from, n);
-    put(out, end, b"\n")
+    let mut text = Text::new(out);
+    text.put(line);
+    text.length()
 }
