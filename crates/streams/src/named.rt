@@ -1,9 +1,11 @@
 // This module reads files that the program's arguments name.
-ghost use Rattle.std.specs.Prelude.{◌≡◌, length};
+ghost use Rattle.std.specs.Prelude.{◌≡◌, length, take, IfOk};
 ghost use Rattle.io.specs.Counts.{IsPrefixLen};
+ghost use Rattle.rules.specs.Numbers.{done};
+ghost use Rattle.rules.specs.Records.{check_number};
 ghost use Rattle.streams.specs.Table.{Checked};
 
-use crate::{checked, fail, file, no_table};
+use crate::{Reported, checked, fail, file, no_table};
 use std::env::{Env, FillError};
 use std::io;
 use std::io::{ErrorKind, Print};
@@ -30,12 +32,13 @@ pub fn refused(name: &[u8]) -> io::Error {
 }
 
 // Says on standard error what is amiss, and why.
-pub fn say(rt: &HostRuntime, what: &[u8], why: &[u8]) {
+pub fn say(rt: &HostRuntime, what: &[u8], why: &[u8]) -> Reported {
     let error = rt.stderr();
     let _ = error.write_all(what);
     let _ = error.write_all(b": ");
     let _ = error.write_all(why);
     let _ = error.write_all(b"\n");
+    Reported
 }
 
 // Counts the program's arguments, its own name as the first of them.
@@ -61,27 +64,26 @@ pub fn name(rt: &HostRuntime, i: usize, buffer: &mut [u8]) -> usize
     }
 }
 
-// Reads the table from the file of this name and gives its length. Where there is none, or the check refuses it, the only line says so,
-// standard error names the file, and 0 is given.
-fn table_of(rt: &HostRuntime, name: &[u8], buffer: &mut [u8]) -> usize
-    ensures { Checked buffer.new result }
+// Says on standard error why the file of this name cannot be read, and writes the only line that there is then.
+fn unread(rt: &HostRuntime, name: &[u8], why: io::Error) -> Reported {
+    fail(rt, name, why);
+    no_table(rt)
+}
+
+// Reads the table from the file of this name and gives its length. Where there is none, or the check refuses it, the only line says so, and
+// standard error names the file.
+fn table_of(rt: &HostRuntime, name: &[u8], buffer: &mut [u8]) -> Result<usize, Reported>
+    ensures table { IfOk result (Checked buffer.new) }
+    ensures valid { IfOk result (λ n. check_number (take n buffer.new) ≡ done) }
 {
-    let taken = file(rt, name, buffer);
-    if let Some(why) = taken.failed {
-        fail(rt, name, why);
-        no_table(rt);
-        return 0;
-    }
-    let n = checked(rt, taken.octets, buffer);
-    if n == 0 {
-        say(rt, name, b"bad table");
-    }
-    n
+    let n = file(rt, name, buffer).map_err(|why| unread(rt, name, why))?;
+    checked(rt, n, buffer).map_err(|_| say(rt, name, b"bad table"))
 }
 
 // Reads the table from the file that argument i names, as `table_of` does.
-pub fn table(rt: &HostRuntime, i: usize, buffer: &mut [u8]) -> usize
-    ensures { Checked buffer.new result }
+pub fn table(rt: &HostRuntime, i: usize, buffer: &mut [u8]) -> Result<usize, Reported>
+    ensures table { IfOk result (Checked buffer.new) }
+    ensures valid { IfOk result (λ n. check_number (take n buffer.new) ≡ done) }
 {
     let mut space = space();
     let n = name(rt, i, &mut space);

@@ -2,8 +2,8 @@
 use Rattle.std.proofs.Common.{length, ◌-◌, ◌≡◌, ◌≤◌}
 use Rattle.streams.proofs.fill.Given as goal
 
-abbrev pub invariant-loop-at : goal.invariant-loop-at
-invariant-loop-at g l = (l.at ≤ length l.buffer) × (length l.buffer ≡ length l.initial.buffer)
+abbrev pub invariant-loop-octets : goal.invariant-loop-octets
+invariant-loop-octets g l = (l.octets ≤ length l.buffer) × (length l.buffer ≡ length l.initial.buffer)
 
-abbrev pub decreases-loop-at : goal.decreases-loop-at
-decreases-loop-at g l = length l.initial.buffer - l.at
+abbrev pub decreases-loop-octets : goal.decreases-loop-octets
+decreases-loop-octets g l = length l.initial.buffer - l.octets
