@@ -46,15 +46,13 @@ fn listing(before: u64, answers: &[u8], text: &mut [u8]) -> usize
 {
     let n = answers.len() / ANSWER_SIZE;
     let mut at = 0;
-    let mut k = 0;
-    while k < n {
+    for k in 0..n {
         at = line_at(
             text,
             at,
             before + k as u64 + 1,
             events::answer_at(answers, k),
         );
-        k += 1;
     }
     at
 }

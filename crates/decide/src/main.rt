@@ -8,67 +8,61 @@ ghost use Rattle.std.specs.Prelude.{◌*◌, ◌≤◌, ◌<◌, length};
 ghost use Rattle.rules.specs.Records.{event_size, most_events};
 ghost use Rattle.decide.specs.Listing.{last_number};
 
-use events::EVENT_SIZE;
-use streams::{FULL_LIST, LINE, TABLE_ROOM};
+use streams::{End, LINE, Reported, TABLE_ROOM};
 
 // A list is taken only where fewer events than this came before it, so that every number fits in 64 bits: 2^64 less 4,096.
 const LAST_NUMBER: u64 = 18446744073709547520;
 
-// Writes the lines of one list, which comes after `before` events, to standard output, and says whether they were written.
-fn print_list(rt: &HostRuntime, before: u64, table: &mut [u8], events: &[u8]) -> bool
+// Writes the lines of one list, which comes after `before` events, to standard output.
+fn print_list(
+    rt: &HostRuntime,
+    before: u64,
+    table: &mut [u8],
+    events: &[u8],
+) -> Result<(), Reported>
     requires events_len_bound { length events.now ≤ event_size * most_events }
     requires before_lt_last_number { before < last_number }
 {
     let n = events.len();
     let mut places = streams::list_room();
-    let mut text = listing::space();
-    let length = listing::decided(before, table, events, &mut places[..n], &mut text);
-    streams::write(rt, &text[..length])
+    streams::print(
+        rt,
+        &mut listing::space(),
+        |text| listing::decided(before, table, events, &mut places[..n], text),
+    )
 }
 
-// Takes one list from standard input, writes its lines, and tells whether another may come.
-fn turn(rt: &HostRuntime, before: u64, table: &mut [u8]) -> bool
+// Takes one list from standard input, writes its lines, and says how it ended.
+fn turn(rt: &HostRuntime, before: u64, table: &mut [u8]) -> Result<End, Reported>
     requires { before < last_number }
 {
-    let mut events = streams::list_room();
-    let taken = streams::fill(&mut rt.stdin(), &mut events);
-    let n = taken.octets;
-    let whole = n - n % EVENT_SIZE;
-    if !print_list(rt, before, table, &events[..whole]) {
-        return false;
-    }
-    if n == FULL_LIST {
-        return true;
-    }
-    streams::ended(rt, taken);
-    false
+    let mut room = streams::list_room();
+    let list = streams::next_list(&mut rt.stdin(), &mut room);
+    print_list(rt, before, table, list.events)?;
+    Ok(list.end)
 }
 
 // Takes lists one after another, each of 4,096 events but the last, as far as 64 bits number them: to event 2^64 - 4,096.
-fn lists(rt: &HostRuntime, table: &mut [u8]) {
+fn lists(rt: &HostRuntime, table: &mut [u8]) -> Result<(), Reported> {
     let mut before: u64 = 0;
+    // The edit numbers_a_step_short holds the step, `numbered_on`, which a `for` with `step_by` would leave out.
     while before < LAST_NUMBER {
-        if !turn(rt, before, table) {
-            return;
+        match turn(rt, before, table)? {
+            End::Full => before = listing::numbered_on(before),
+            end => return streams::ended(rt, end),
         }
-        before = listing::numbered_on(before);
     }
+    Ok(())
 }
 
-// Writes the line above those of the events, and tells whether it was written.
-fn header(rt: &HostRuntime) -> bool {
-    let mut text = [0u8; LINE];
-    let n = lines::event::header(&mut text);
-    streams::write(rt, &text[..n])
+// Writes the header and the lines of all events, unless there is no table.
+fn run(rt: &HostRuntime) -> Result<(), Reported> {
+    let mut space = [0u8; TABLE_ROOM];
+    let n = streams::table(rt, &mut space)?;
+    streams::print(rt, &mut [0; LINE], lines::event::header)?;
+    lists(rt, &mut space[..n])
 }
 
 fn main(rt: HostRuntime) {
-    let mut space = [0u8; TABLE_ROOM];
-    let n = streams::table(&rt, &mut space);
-    if n == 0 {
-        return;
-    }
-    if header(&rt) {
-        lists(&rt, &mut space[..n]);
-    }
+    let _ = run(&rt);
 }

@@ -12,7 +12,7 @@ loop-k-preserved c =
     let a = c.args in
     let number : a.before + l.k + 1 ≡ a.before + suc l.k = omega arith in
     let same = (λ i. listing_to a.before a.answers.now l.k ++ line (number i) (c.answer_at.ensures i)) ∙ ap (listing_to a.before a.answers.now) (sym (add-one l.k)) in
-    record { counted = omega arith; text = said same (joined l.invariant.text c.line_at-at.ensures.text); within = omega arith }
+    record { text = said same (joined l.invariant.text c.line_at-at.ensures.text); within = omega arith }
 
 pub returns-clause-text : goal.returns-clause-text
 unfolding listing

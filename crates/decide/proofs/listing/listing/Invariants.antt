@@ -1,5 +1,5 @@
 -- The loop has written the lines of the first k answers.
-use Rattle.std.proofs.Common.{◌-◌, ◌*◌, ◌≤◌}
+use Rattle.std.proofs.Common.{◌*◌, ◌≤◌}
 use Rattle.lines.specs.Text.{Written}
 use Rattle.lines.specs.Event.{most_letters}
 use Rattle.decide.specs.Listing.{listing_to}
@@ -7,10 +7,6 @@ use Rattle.decide.proofs.listing.listing.Given as goal
 
 abbrev pub invariant-loop-k : goal.invariant-loop-k
 invariant-loop-k l = record {
-  counted : l.k ≤ l.n;
   text : Written l.fn.text 0 (listing_to l.before l.answers l.k) l.text l.at;
   within : l.at ≤ most_letters * l.k;
 }
-
-abbrev pub decreases-loop-k : goal.decreases-loop-k
-decreases-loop-k l = l.n - l.k
