@@ -7,9 +7,8 @@ ghost use Rattle.lines.specs.Text.{Written};
 ghost use Rattle.lines.specs.Panel.{most_letters};
 ghost use Rattle.panel.specs.Drawn.{panel};
 
-use events::EVENT_SIZE;
 use lines::panel::MOST_LETTERS;
-use streams::{FULL_LIST, TABLE_ROOM, Taken};
+use streams::{End, FULL_LIST, Listed, Reported, TABLE_ROOM};
 
 // Writes the panel of a table into the text, and gives its length.
 fn drawn(table: &[u8], text: &mut [u8]) -> usize
@@ -22,62 +21,52 @@ fn drawn(table: &[u8], text: &mut [u8]) -> usize
     lines::panel::draw(text, words, map.lit, first)
 }
 
-// Writes the panel of a table to standard output, and tells whether it was written.
-fn draw(rt: &HostRuntime, table: &[u8]) -> bool {
-    let mut text = [0u8; MOST_LETTERS];
-    let n = drawn(table, &mut text);
-    streams::write(rt, &text[..n])
+// Writes the panel of a table to standard output.
+fn draw(rt: &HostRuntime, table: &[u8]) -> Result<(), Reported> {
+    streams::print(rt, &mut [0; MOST_LETTERS], |text| drawn(table, text))
 }
 
-// Applies one list from standard input to the table, looks at none of its answers, and gives what was read.
-fn turn(rt: &HostRuntime, table: &mut [u8]) -> Taken {
-    let mut events = streams::list_room();
+// Applies one list from standard input to the table, looks at none of its answers, and gives the list.
+fn turn<'a>(rt: &HostRuntime, table: &mut [u8], room: &'a mut [u8; FULL_LIST]) -> Listed<'a> {
     let mut answers = streams::list_room();
-    let taken = streams::fill(&mut rt.stdin(), &mut events);
-    let n = taken.octets;
-    let whole = n - n % EVENT_SIZE;
-    route::list(table, &events[..whole], &mut answers[..whole]);
-    taken
+    let list = streams::next_list(&mut rt.stdin(), room);
+    let places = &mut answers[..list.events.len()];
+    route::list(table, list.events, places);
+    list
 }
 
-// Applies the lists after the first, each of them full but the last, and gives what was read for the last one.
-fn last(rt: &HostRuntime, table: &mut [u8], first: Taken) -> Taken {
-    let mut taken = first;
-    let mut turns = u64::MAX;
-    while turns > 0 {
-        if taken.octets < FULL_LIST {
-            return taken;
-        }
-        taken = turn(rt, table);
-        turns -= 1;
+// Applies the lists after the first, each of them full but the last, and says how the last one ended.
+fn last(rt: &HostRuntime, table: &mut [u8], first: End) -> End {
+    let mut room = streams::list_room();
+    let mut end = first;
+    for _ in 0..u64::MAX {
+        let End::Full = end else { break };
+        end = turn(rt, table, &mut room).end;
     }
-    taken
+    end
 }
 
 // Draws the panel before the events and, if there are any, after them, with an empty line between.
-fn twice(rt: &HostRuntime, table: &mut [u8]) {
-    if !draw(rt, table) {
-        return;
+fn twice(rt: &HostRuntime, table: &mut [u8]) -> Result<(), Reported> {
+    draw(rt, table)?;
+    let mut room = streams::list_room();
+    let first = turn(rt, table, &mut room);
+    if first.events.is_empty() {
+        return streams::ended(rt, first.end);
     }
-    let first = turn(rt, table);
-    if first.octets < EVENT_SIZE {
-        streams::ended(rt, first);
-        return;
-    }
-    let taken = last(rt, table, first);
-    if !streams::write(rt, b"\n") {
-        return;
-    }
-    if draw(rt, table) {
-        streams::ended(rt, taken);
-    }
+    let end = last(rt, table, first.end);
+    streams::write(rt, b"\n")?;
+    draw(rt, table)?;
+    streams::ended(rt, end)
+}
+
+// Draws the panel of the table, unless there is none.
+fn run(rt: &HostRuntime) -> Result<(), Reported> {
+    let mut space = [0u8; TABLE_ROOM];
+    let n = streams::table(rt, &mut space)?;
+    twice(rt, &mut space[..n])
 }
 
 fn main(rt: HostRuntime) {
-    let mut space = [0u8; TABLE_ROOM];
-    let n = streams::table(&rt, &mut space);
-    if n == 0 {
-        return;
-    }
-    twice(&rt, &mut space[..n]);
+    let _ = run(&rt);
 }
