@@ -1,7 +1,7 @@
 -- The lengths of the program's lists are right, so that a list is refused only by 60.
 use Prim.Native.Nat.{ℕ, ◌*◌, ◌/◌, ◌%◌, ◌≤◌}
 use mathlib.Core.Path.{◌≡◌, sym, ap, ◌∙◌}
-use mathlib.Core.Bool.{Bool, true, cond, not, ◌&&◌}
+use mathlib.Core.Bool.{Bool, true, cond, ◌&&◌}
 use mathlib.Core.List.{List}
 use native.Mathlib.Omega.{arith}
 use lib.ListN.{length}
@@ -17,8 +17,8 @@ use Rattle.tally.specs.Shares.{list_adds}
 use Rattle.tally.specs.Entry.{too_many_lists, has_room, added, figures_lengths, figures_number, is_added, figures_table, figures_totals}
 use Rattle.figures.specs.Output.{Sized, listed_table, listed_totals}
 
-abbrev said : Bool → Bool  -- a list is refused where its number is not 0
-said b = not (eqb (cond b done too_many_lists) done)
+abbrev said : Bool → Bool  -- a list is added where its number is 0
+said b = eqb (cond b done too_many_lists) done
 
 module _ (t es places f : List ℕ) (table : Sized (length t)) (whole : length es % event_size ≡ 0) (most : length es ≤ event_size * most_events) (each : length places ≡ length es) (all : length f ≡ figures) where
   list_right : list_lengths t es places ≡ true
@@ -36,11 +36,11 @@ module _ (t es places f : List ℕ) (table : Sized (length t)) (whole : length e
   unfolding is_added
   is_added_lem = ap (λ (b : Bool). b && has_room f) right
 
-  refused : {r : ℕ} → r ≡ figures_number t es places f → not (eqb r done) ≡ not (has_room f)
+  right_added : {r : ℕ} → r ≡ figures_number t es places f → eqb r done ≡ has_room f
   unfolding figures_number
-  refused e =
-      ap (λ (n : ℕ). not (eqb n done)) (e ∙ ap (λ (b : Bool). cond b (cond (has_room f) done too_many_lists) wrong_length) right)
-      ∙ by_so (has_room f) (λ h. ap said h ∙ sym (ap not h)) (λ h. ap said h ∙ sym (ap not h))
+  right_added e =
+      ap (λ (n : ℕ). eqb n done) (e ∙ ap (λ (b : Bool). cond b (cond (has_room f) done too_many_lists) wrong_length) right)
+      ∙ by_so (has_room f) (λ h. ap said h ∙ sym h) (λ h. ap said h ∙ sym h)
 
   table-after : figures_table t es places f ≡ listed_table t es f
   unfolding figures_table listed_table list_table
@@ -52,5 +52,5 @@ module _ (t es places f : List ℕ) (table : Sized (length t)) (whole : length e
   unfolding figures_totals listed_totals
   totals-after = ap (λ (b : Bool). cond b (added (list_adds records t (events_in es)) f) f) is_added_lem
 
-  pub listed : {r : ℕ} {u g : List ℕ} → r ≡ figures_number t es places f → u ≡ figures_table t es places f → g ≡ figures_totals t es places f → (not (eqb r done) ≡ not (has_room f)) × ((u ≡ listed_table t es f) × (g ≡ listed_totals t es f))
-  listed n u g = (refused n, (u ∙ table-after, g ∙ totals-after))
+  pub listed : {r : ℕ} {u g : List ℕ} → r ≡ figures_number t es places f → u ≡ figures_table t es places f → g ≡ figures_totals t es places f → (eqb r done ≡ has_room f) × ((u ≡ listed_table t es f) × (g ≡ listed_totals t es f))
+  listed n u g = (right_added n, (u ∙ table-after, g ∙ totals-after))

@@ -10,19 +10,21 @@ mod lists;
 mod pair;
 mod print;
 
-fn main(rt: HostRuntime) {
-    let count = streams::named::count(&rt);
+use streams::Reported;
+
+// Writes the figures of standard input, or of the files that the arguments name.
+fn run(rt: &HostRuntime) -> Result<(), Reported> {
+    let count = streams::named::count(rt);
     if count < 2 {
-        input::figures(&rt);
-        return;
+        return input::figures(rt);
     }
     if count % 2 == 0 {
-        streams::named::say(
-            &rt,
-            b"figures",
-            b"each table needs its events: figures TABLE EVENTS ..",
-        );
-        return;
+        let need = b"each table needs its events: figures TABLE EVENTS ..";
+        return Err(streams::named::say(rt, b"figures", need));
     }
-    day::figures(&rt, count / 2);
+    day::figures(rt, count / 2)
+}
+
+fn main(rt: HostRuntime) {
+    let _ = run(&rt);
 }

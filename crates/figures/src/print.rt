@@ -1,34 +1,31 @@
 // This module writes the figures to standard output.
-ghost use Rattle.std.specs.Prelude.{◌≡◌, length};
-ghost use Rattle.tally.specs.Places.{figures};
-
 use lines::figures::MOST_LETTERS;
-use streams::LINE;
+use streams::{LINE, Reported};
+use tally::totals::FIGURES;
 
-// Writes the text of the totals, and tells whether it was written.
-pub fn totals(rt: &HostRuntime, start: u64, end: u64, totals: &[u64]) -> bool
-    requires { length totals.now ≡ figures }
-{
-    let mut text = [0u8; MOST_LETTERS];
-    let n = lines::figures::lines(&mut text, start, end, totals);
-    streams::write(rt, &text[..n])
+// Writes the text of the totals.
+pub fn totals(
+    rt: &HostRuntime,
+    start: u64,
+    end: u64,
+    totals: &[u64; FIGURES],
+) -> Result<(), Reported> {
+    streams::print(
+        rt,
+        &mut [0; MOST_LETTERS],
+        |text| lines::figures::lines(text, start, end, totals),
+    )
 }
 
-// Writes a line for each number of octets that were left over, in their order, and tells whether all were written.
-pub fn shorts(rt: &HostRuntime, lefts: &[u8]) -> bool {
-    let mut k = 0;
-    while k < lefts.len() {
-        if !streams::short(rt, lefts[k]) {
-            return false;
-        }
-        k += 1;
+// Writes a line for each number of octets that were left over, in their order.
+pub fn shorts(rt: &HostRuntime, lefts: &[u8]) -> Result<(), Reported> {
+    for left in lefts {
+        streams::short(rt, *left)?;
     }
-    true
+    Ok(())
 }
 
 // Writes the last line, where a list was refused.
-pub fn too_many(rt: &HostRuntime) {
-    let mut text = [0u8; LINE];
-    let n = lines::figures::too_many(&mut text);
-    streams::write(rt, &text[..n]);
+pub fn too_many(rt: &HostRuntime) -> Result<(), Reported> {
+    streams::print(rt, &mut [0; LINE], lines::figures::too_many)
 }

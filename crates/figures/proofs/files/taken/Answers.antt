@@ -2,5 +2,5 @@
 use Rattle.figures.proofs.Tables.{sized}
 use Rattle.figures.proofs.files.taken.Goals as goal
 
-pub events-requires-clause-sized : goal.events-requires-clause-sized
-events-requires-clause-sized c = sized _ _ c.table-n.ensures c.if-n-eq0.false
+pub events-requires : goal.events-requires
+events-requires c = sized _ c.in_ok-n.ensures.valid
