@@ -3,3 +3,4 @@ pub mod Applied
 pub mod Listed
 pub mod Whole
 pub mod Determined
+pub mod Results

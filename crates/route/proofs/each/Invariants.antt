@@ -1,10 +1,8 @@
 -- The table and the answers after k events are what the first k events make of them.
-use Rattle.std.proofs.Common.{◌≡◌, length}
+use Rattle.std.proofs.Common.{◌≡◌}
 use Rattle.octets.specs.Span.{put}
 use Rattle.route.proofs.Listed.{ran, given}
 use Rattle.route.proofs.each.Given as goal
 
 abbrev pub invariant-loop-k : goal.invariant-loop-k
-invariant-loop-k l =
-    (l.t ≡ ran l.fn.t l.es l.k) × (l.places ≡ put l.fn.places 0 (given l.fn.t l.es l.k))
-    × (length l.t ≡ length l.fn.t) × (length l.places ≡ length l.fn.places)
+invariant-loop-k l = record { table : l.t ≡ ran l.fn.t l.es l.k; answers : l.places ≡ put l.fn.places 0 (given l.fn.t l.es l.k) }

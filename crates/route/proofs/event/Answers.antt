@@ -10,8 +10,9 @@ pub returns-then-not-event_lengths : goal.returns-then-not-event_lengths
 unfolding event_lengths
 returns-then-not-event_lengths c =
     let a = c.args in
-    let none = no_event a.t.now a.e.now a.a.now (sym c.event_lengths.ensures ∙ c.if-not-event_lengths.true) in
-    record { number = none.0; table = none.1.0; answer = none.1.1 }
+    let wrong = sym c.event_lengths.ensures ∙ c.if-not-event_lengths.true in
+    let none = no_event a.t.now a.e.now a.a.now wrong in
+    record { number = none.0; lengths = sym wrong; table = none.1.0; answer = none.1.1 }
 
 pub apply-requires-clause-t_bound : goal.apply-requires-clause-t_bound
 unfolding event_lengths
@@ -27,4 +28,4 @@ returns c =
     let one =
     an_event a.t.now a.e.now a.a.now right (number_of records a.t.now (event_in a.e.now 0) c.apply.ensures.told c.number_told.ensures) c.apply.ensures.table c.apply.ensures.answers
     in
-    record { number = one.0; table = one.1.0; answer = one.1.1 }
+    record { number = one.0; lengths = sym right; table = one.1.0; answer = one.1.1 }

@@ -17,9 +17,9 @@ each-requires-clause-t_bound c =
     let a = c.args in
     (list_facts a.t.now a.es.now a.places.now (sym c.list_lengths.ensures ∙ c.if-not-list_lengths.false)).0
 
-pub each-requires-clause-n_in_bounds_2 : goal.each-requires-clause-n_in_bounds_2
+pub each-requires-clause-answers_in_bounds : goal.each-requires-clause-answers_in_bounds
 unfolding list_lengths
-each-requires-clause-n_in_bounds_2 c =
+each-requires-clause-answers_in_bounds c =
     let a = c.args in
     let f = list_facts a.t.now a.es.now a.places.now (sym c.list_lengths.ensures ∙ c.if-not-list_lengths.false) in
     omega (arith, f.2)
