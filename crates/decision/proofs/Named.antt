@@ -6,7 +6,7 @@ use mathlib.Core.List.{List}
 use Rattle.rules.specs.declared.circuit.Circuit.{Circuit}
 use Rattle.rules.specs.declared.event.Event.{Event}
 use Rattle.std.specs.Prelude.{Option, Some, None, Ok, Err}
-use Rattle.rules.specs.Outcome.{Outcome, does}
+use Rattle.rules.specs.Outcome.{Outcome}
 use Rattle.rules.specs.declared.outcome.Deed.TheVariants.{Do, Clock}
 use Rattle.rules.specs.declared.verdict.Fault.{Fault}
 use Rattle.rules.specs.Search.{first_to}

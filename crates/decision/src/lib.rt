@@ -57,7 +57,15 @@ fn set_up_reserver(t: &[u8], e: Event, i: usize) -> Outcome
 {
     match choice::held_by(t, e.reference) {
         Some(_) => Err(Refusal::AlreadyThere),
-        None => on_reservation(e, Record::new(t, i).part(Side::Reservation), i),
+        None => on_reservation(
+            e,
+            Record {
+                table: t,
+                number: i,
+            }
+            .part(Side::Reservation),
+            i,
+        ),
     }
 }
 

@@ -19,7 +19,11 @@ fn renew(t: &mut [u8], e: Event, a: Act, i: usize)
     requires { i < circuits t.old }
     ensures { t.new ≡ put_circuit t.old i (made e a (circuit_at t.old i)) }
 {
-    let c = Record::new(t, i).circuit();
+    let c = Record {
+        table: t,
+        number: i,
+    }
+    .circuit();
     table::store(t, i, c.made(e, a));
 }
 
@@ -29,7 +33,12 @@ fn act(t: &mut [u8], e: Event, a: Act, i: usize)
     requires { Ready t.old (does a i) }
     ensures { t.new ≡ put_circuit t.old i (made e a (circuit_at t.old i)) }
 {
-    let c = Record::new(t, i).circuit().made(e, a);
+    let c = Record {
+        table: t,
+        number: i,
+    }
+    .circuit()
+    .made(e, a);
     match a {
         Act::Seize | Act::Unmark => table::store(t, i, c),
         Act::Reserve | Act::Cancel => table::store_reservation(t, i, c.reservation, c.clock),
@@ -45,7 +54,11 @@ fn relieve(t: &mut [u8], e: Event, i: usize)
         (put_circuit t.old i (made e Act.Cancel (circuit_at t.old i)))
         t.old }
 {
-    if Record::new(t, i).overdue(e.clock) {
+    let record = Record {
+        table: t,
+        number: i,
+    };
+    if record.overdue(e.clock) {
         renew(t, e, Act::Cancel, i);
     }
 }
