@@ -43,7 +43,10 @@ fn weighed(circuit: Record, by: Mark, top: usize) -> usize
 fn glance(circuit: Record, by: Mark, top: usize) -> usize
     ensures { result ≡ cond (free (circuit_in circuit.entry)) 1 (above top (rank by (circuit_in circuit.entry))) }
 {
-    if circuit.present(Side::Reservation) || circuit.present(Side::Holder) {
+    if circuit.present(Side::Reservation) {
+        return weighed(circuit, by, top);
+    }
+    if circuit.present(Side::Holder) {
         weighed(circuit, by, top)
     } else {
         FREE

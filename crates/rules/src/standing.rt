@@ -28,7 +28,10 @@ impl Standing {
     pub fn preemptable(held: bool, level: Level, ringing: bool) -> bool
         ensures { result ≡ not held || (level_ok level.0 && not ringing) }
     {
-        !held || level.known() && !ringing
+        if !held {
+            return true;
+        }
+        level.known() && !ringing
     }
 
     // Says how gladly a call takes a circuit under this level, if it is takeable: the level number counts first, then that there is no holder.
@@ -49,8 +52,9 @@ impl Standing {
     pub fn takeable(self, by: Mark) -> bool
         ensures { result ≡ not (not self.held && not self.reserved) && (self.preemptable && outranks by self.mark) }
     {
-        !Standing::free(self.held, self.reserved)
-            && self.preemptable
-            && by.outranks(self.standing())
+        if Standing::free(self.held, self.reserved) {
+            return false;
+        }
+        self.preemptable && by.outranks(self.standing())
     }
 }

@@ -103,7 +103,7 @@ impl<'a> Record<'a> {
     pub fn stands_in(self, side: Side, reference: Reference) -> bool
         ensures { result ≡ is_of reference (part_on side (circuit_in self.entry)) }
     {
-        self.reference(side) == reference && self.present(side)
+        octets::same_five(self.reference(side), reference) && self.present(side)
     }
 
     // Tells whether the circuit is free, by its two flags.
