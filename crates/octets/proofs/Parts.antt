@@ -6,14 +6,14 @@ use mathlib.Core.List.{List, [], ◌∷◌, ◌++◌}
 use native.Mathlib.Omega.{arith}
 use native.Mathlib.Numerals.{add-one}
 use lib.Dec.{eqb}
-use lib.ListN.{length, get_or, set, take, drop, replicate}
+use lib.ListN.{length, get_or, set, take, drop}
 use lib.Pointwise.{pointwise}
 use lib.Seq.{paste, ext_get_or, drop-drop}
 use borrow.Rule.Slice.PartMut.{put_mid}
 use Rattle.std.specs.List.{between}
 use Rattle.std.proofs.lemmas.List.Edits.{length-between, get_or-between, paste_none, paste_more, paste_all}
 use Rattle.octets.specs.Same.{same}
-use Rattle.octets.specs.Span.{span, put_to, put, zeros}
+use Rattle.octets.specs.Span.{span, put_to, put}
 use Rattle.octets.proofs.Spans.{length-span, span_at}
 
 -- a part of a slice
@@ -41,11 +41,3 @@ same_pointwise [] [] = refl
 same_pointwise [] (y ∷ ys) = refl
 same_pointwise (x ∷ xs) [] = refl
 same_pointwise (x ∷ xs) (y ∷ ys) = ap (λ (t : Bool). eqb x y && t) (same_pointwise xs ys)
-
--- a part and as many zeros
-zeros_pointwise : (l : List ℕ) → pointwise eqb l (replicate (length l) 0) ≡ zeros l
-zeros_pointwise [] = refl
-zeros_pointwise (b ∷ bs) = ap (λ (t : Bool). eqb b 0 && t) (zeros_pointwise bs)
-
-pub zero_part : (t : List ℕ) (o w : ℕ) → pointwise eqb (span t o w) (replicate w 0) ≡ zeros (span t o w)
-zero_part t o w = ap (λ (n : ℕ). pointwise eqb (span t o w) (replicate n 0)) (sym (length-span t o w)) ∙ zeros_pointwise (span t o w)
