@@ -4,13 +4,13 @@
 
 ghost use Rattle.std.specs.Prelude.{◌≡◌, ◌+◌, ◌*◌, ◌≤◌, length};
 ghost use Rattle.octets.specs.Span.{span, put};
-ghost use Rattle.rules.specs.Records.{event_size, event_in, mark_in, reference_in, event_at, answer_size, answer_octets, answer_in, answer_number, answer_cause, answer_detail, lost_call, lost_reservation, is_lost, lost_reference};
+ghost use Rattle.rules.specs.Records.{event_size, event_in, mark_in, reference_in, event_at, answer_size, loser, answer_octets, answer_in, answer_number, answer_cause, answer_detail, lost_call, lost_reservation, is_lost, lost_reference};
 
 use rules::answer::Answer;
 use rules::event::Event;
 use rules::level::Level;
 use rules::mark::Mark;
-use rules::part::{REFERENCE_SIZE, Reference};
+use rules::part::{Part, REFERENCE_SIZE, Reference};
 use rules::{outcome, parameter};
 
 // An event has 16 octets.
@@ -27,9 +27,10 @@ fn mark(es: &[u8], o: usize) -> Mark
     requires { o + event_size ≤ length es.now }
     ensures { result ≡ mark_in (span es.now o event_size) }
 {
-    let level = Level::in_parameter(es[o + 1]);
-    let domain = octets::read_five(es, o + 2);
-    Mark { level, domain }
+    Mark {
+        level: Level::in_parameter(es[o + 1]),
+        domain: octets::read(es, o + 2),
+    }
 }
 
 // Reads the reference of the event that stands from octet `o` on, its spare bits as 0.
@@ -37,7 +38,9 @@ fn reference(es: &[u8], o: usize) -> Reference
     requires { o + event_size ≤ length es.now }
     ensures { result ≡ reference_in (span es.now o event_size) }
 {
-    [es[o + 7], es[o + 8], es[o + 9], es[o + 10], es[o + 11] % 64]
+    let mut reference: Reference = octets::read(es, o + 7);
+    reference[4] %= 64;
+    reference
 }
 
 // Reads what event k says, of those that stand one after another.
@@ -46,40 +49,24 @@ pub fn read(es: &[u8], k: usize) -> Event
     ensures { result ≡ event_at (event_in es.now k) }
 {
     let o = EVENT_SIZE * k;
-    let kind = es[o];
-    let mark = mark(es, o);
-    let lfb = parameter::lfb_in(es[o + 1]);
-    let parameterless = octets::zero_six(es, o + 1);
-    let referenceless = octets::zero_five(es, o + 7);
-    let reference = reference(es, o);
-    let clock = octets::read_four(es, o + 12);
     Event {
-        kind,
-        mark,
-        lfb,
-        parameterless,
-        referenceless,
-        reference,
-        clock,
+        kind: es[o],
+        mark: mark(es, o),
+        lfb: parameter::lfb_in(es[o + 1]),
+        parameterless: octets::is_zero::<6>(es, o + 1),
+        referenceless: octets::is_zero::<5>(es, o + 7),
+        reference: reference(es, o),
+        clock: octets::read_number(es, o + 12),
     }
 }
 
-// Gives the record of an answer.
-fn record(a: Answer) -> [u8; ANSWER_SIZE]
-    ensures { result ≡ answer_octets a }
+// Writes a party that was lost, or nobody, from octet `o` on: a flag, then a reference.
+fn write_party(answers: &mut [u8], o: usize, p: Part)
+    requires { o + 6 ≤ length answers.old }
+    ensures { answers.new ≡ put answers.old o (loser p) }
 {
-    let call = a.call;
-    let reservation = a.reservation;
-    let p = call.reference;
-    let q = reservation.reference;
-    let cause = outcome::cause(a.number);
-    let s = octets::split_two(a.detail);
-    let c = call.flag();
-    let r = reservation.flag();
-    [
-        a.number, cause, s[0], s[1], c, p[0], p[1], p[2], p[3], p[4], r, q[0], q[1], q[2], q[3],
-        q[4],
-    ]
+    answers[o] = p.flag();
+    octets::write(answers, o + 1, &p.reference);
 }
 
 // Writes answer k, after those before it.
@@ -87,8 +74,12 @@ pub fn write(answers: &mut [u8], k: usize, a: Answer)
     requires { answer_size * k + answer_size ≤ length answers.old }
     ensures { answers.new ≡ put answers.old (answer_size * k) (answer_octets a) }
 {
-    let v = record(a);
-    octets::write(answers, ANSWER_SIZE * k, &v);
+    let o = ANSWER_SIZE * k;
+    answers[o] = a.number;
+    answers[o + 1] = outcome::cause(a.number);
+    octets::write(answers, o + 2, &a.detail.to_le_bytes());
+    write_party(answers, o + 4, a.call);
+    write_party(answers, o + 10, a.reservation);
 }
 
 // Gives answer k, of those that stand one after another.
@@ -96,10 +87,7 @@ pub fn answer_at(answers: &[u8], k: usize) -> [u8; ANSWER_SIZE]
     requires { answer_size * k + answer_size ≤ length answers.now }
     ensures { result ≡ answer_in answers.now k }
 {
-    let o = ANSWER_SIZE * k;
-    let mut a = [0u8; ANSWER_SIZE];
-    octets::write(&mut a, 0, &answers[o..o + ANSWER_SIZE]);
-    a
+    octets::read(answers, ANSWER_SIZE * k)
 }
 
 // Gives the number of an answer.
@@ -120,7 +108,7 @@ pub fn cause(a: [u8; ANSWER_SIZE]) -> u8
 pub fn detail(a: [u8; ANSWER_SIZE]) -> u16
     ensures { result ≡ answer_detail a }
 {
-    octets::join_two(a[2], a[3])
+    u16::from_le_bytes(octets::read(&a, 2))
 }
 
 // A lost party stands in an answer as its flag and its reference.
@@ -130,14 +118,14 @@ pub type Lost = [u8; 1 + REFERENCE_SIZE];
 pub fn lost_call(a: [u8; ANSWER_SIZE]) -> Lost
     ensures { result ≡ lost_call a }
 {
-    [a[4], a[5], a[6], a[7], a[8], a[9]]
+    octets::read(&a, 4)
 }
 
 // Gives the reservation that an answer names as lost.
 pub fn lost_reservation(a: [u8; ANSWER_SIZE]) -> Lost
     ensures { result ≡ lost_reservation a }
 {
-    [a[10], a[11], a[12], a[13], a[14], a[15]]
+    octets::read(&a, 10)
 }
 
 // Tells whether a party in an answer was lost: its flag is 1.
@@ -151,5 +139,5 @@ pub fn is_lost(lost: Lost) -> bool
 pub fn lost_reference(lost: Lost) -> Reference
     ensures { result ≡ lost_reference lost }
 {
-    [lost[1], lost[2], lost[3], lost[4], lost[5]]
+    octets::read(&lost, 1)
 }
