@@ -2,13 +2,14 @@
 
 #![tactic(auto)]
 
-ghost use Rattle.std.specs.Prelude.{◌≡◌, cond, ◌-◌, ◌≤◌, ◌<◌, min};
+ghost use Rattle.std.specs.Prelude.{◌≡◌, ◌≤◌, ◌<◌};
 ghost use Rattle.lamps.specs.Lamps.{lit_at, word, number_in, lowest_in, lit_map, dark_map, lamp_map};
 ghost use Rattle.rules.specs.Records.{circuits, most_circuits};
 
 use rules::answer::NO_DETAIL;
 use rules::number;
 use rules::verdict::Check;
+use table::Record;
 
 // This is what the panel gets: the check's number and detail, how many lamps are lit, and the lamps.
 #[repr(C)]
@@ -20,23 +21,6 @@ pub struct Lamps {
     pub words: [u64; 4],
 }
 
-// Gives the bit of a lamp: 1 where it is lit, else 0.
-fn digit(on: bool) -> u64
-    ensures { (result ≡ cond on 1 0) × (result < 2) }
-{
-    if on { 1 } else { 0 }
-}
-
-// Says how many of n circuits have their lamps in the word from lamp `base` on.
-fn within(n: usize, base: usize) -> usize
-    ensures { result ≡ min (n - base) 64 }
-{
-    if n <= base {
-        return 0;
-    }
-    if n - base < 64 { n - base } else { 64 }
-}
-
 // Builds word j from its top lamp down: each lamp moves those above it up by one bit.
 fn word(t: &[u8], j: usize) -> u64
     requires { j < 4 }
@@ -44,10 +28,9 @@ fn word(t: &[u8], j: usize) -> u64
 {
     let base = 64 * j;
     let mut w: u64 = 0;
-    let mut i = within(table::count(t), base);
-    while 0 < i {
-        i -= 1;
-        w = 2 * w + digit(table::free_at(t, base + i));
+    for i in (0..table::count(t).saturating_sub(base).min(64)).rev() {
+        let number = base + i;
+        w = 2 * w + u64::from(Record { table: t, number }.free());
     }
     w
 }
@@ -57,10 +40,8 @@ fn number_in(words: [u64; 4]) -> u16
     ensures { result ≡ number_in words }
 {
     let mut n: u32 = 0;
-    let mut j = 0;
-    while j < 4 {
-        n += u64::count_ones(words[j]);
-        j += 1;
+    for word in words {
+        n += word.count_ones();
     }
     n as u16
 }
@@ -69,12 +50,10 @@ fn number_in(words: [u64; 4]) -> u16
 pub fn lowest(words: [u64; 4]) -> Option<usize>
     ensures lamp { result ≡ lowest_in words }
 {
-    let mut j = 0;
-    while j < 4 {
-        if words[j] != 0 {
-            return Some(64 * j + u64::trailing_zeros(words[j]) as usize);
+    for (j, word) in words.iter().enumerate() {
+        if *word != 0 {
+            return Some(64 * j + word.trailing_zeros() as usize);
         }
-        j += 1;
     }
     None
 }

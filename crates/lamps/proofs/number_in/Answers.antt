@@ -9,22 +9,21 @@ use Rattle.lamps.proofs.number_in.Goals as goal
 
 pub overflow_add-n : goal.overflow_add-n
 overflow_add-n c =
-    let l = c.loop-j in
+    let j = c.loop-word.word-index in
     let ws = c.args.words in
-    record { fits = omega (arith, count_word ws l.j c.loop-j-test.element_fits.fits, count-le (lamp_in ws) (64 * (l.j + 1))) }
+    record { fits = omega (arith, count_word ws j c.loop-word-test.element_fits.fits, count-le (lamp_in ws) (64 * (j + 1))) }
 
-pub loop-j-preserved : goal.loop-j-preserved
-loop-j-preserved c =
-    let l = c.loop-j in
+pub loop-word-preserved : goal.loop-word-preserved
+loop-word-preserved c =
+    let j = c.loop-word.word-index in
     let ws = c.args.words in
-    (omega arith, ap (λ (m : ℕ). m + ones (get_or ws l.j 0)) l.invariant.1 ∙ count_word ws l.j c.loop-j-test.element_fits.fits)
+    ap (λ (m : ℕ). m + ones (get_or ws j 0)) c.loop-word.invariant ∙ count_word ws j c.loop-word-test.element_fits.fits
 
 pub overflow_cast-result : goal.overflow_cast-result
-overflow_cast-result c = record { fits = omega (arith, count-le (lamp_in c.args.words) (64 * c.loop-j.j)) }
+overflow_cast-result c = record { fits = omega (arith, count-le (lamp_in c.args.words) (64 * c.loop-word.word-index)) }
 
 pub returns : goal.returns
 unfolding number_in
 returns c =
-    let l = c.loop-j in
-    let all : 64 * l.j ≡ 256 = omega arith in
-    l.invariant.1 ∙ ap (count_to (lamp_in c.args.words)) all
+    let all : 64 * c.loop-word.word-index ≡ 256 = omega arith in
+    c.loop-word.invariant ∙ ap (count_to (lamp_in c.args.words)) all

@@ -1,11 +1,8 @@
--- The loop has counted the words before j.
-use Rattle.std.proofs.Common.{◌≡◌, ◌*◌, ◌-◌, ◌≤◌}
+-- The loop has counted the words that it passed.
+use Rattle.std.proofs.Common.{◌≡◌, ◌*◌}
 use Rattle.rules.specs.Search.{count_to}
 use Rattle.lamps.specs.Lamps.{lamp_in}
 use Rattle.lamps.proofs.number_in.Given as goal
 
-abbrev pub invariant-loop-j : goal.invariant-loop-j
-invariant-loop-j l = (l.j ≤ 4) × (l.n ≡ count_to (lamp_in l.words) (64 * l.j))
-
-abbrev pub decreases-loop-j : goal.decreases-loop-j
-decreases-loop-j l = 4 - l.j
+abbrev pub invariant-loop-word : goal.invariant-loop-word
+invariant-loop-word l = l.n ≡ count_to (lamp_in l.fn.words) (64 * l.word-index)
