@@ -14,6 +14,8 @@ ghost use Rattle.route.specs.Entries.{event_number, event_table, event_answer, l
 ghost use Rattle.tally.specs.Entry.{figures_number, figures_table, figures_answers, figures_totals};
 ghost use Rattle.naustvri.specs.Version.{version};
 
+use rules::number::DONE;
+
 // The version has these three parts, as in the header.
 const MAJOR: u32 = 3;
 
@@ -83,7 +85,10 @@ pub fn naustvri_event(table: &mut [u8], event: &[u8], answer: &mut [u8]) -> u8
     ensures table { table.new ≡ event_table table.old event.now answer.old }
     ensures answer { answer.new ≡ event_answer table.old event.now answer.old }
 {
-    route::event(table, event, answer)
+    match route::event(table, event, answer) {
+        Ok(number) => number,
+        Err(refusal) => u8::from(refusal),
+    }
 }
 
 pub fn naustvri_list(table: &mut [u8], events: &[u8], answers: &mut [u8]) -> u8
@@ -91,7 +96,10 @@ pub fn naustvri_list(table: &mut [u8], events: &[u8], answers: &mut [u8]) -> u8
     ensures table { table.new ≡ list_table table.old events.now answers.old }
     ensures answers { answers.new ≡ list_answers table.old events.now answers.old }
 {
-    route::list(table, events, answers)
+    match route::list(table, events, answers) {
+        Ok(()) => DONE,
+        Err(refusal) => u8::from(refusal),
+    }
 }
 
 pub fn naustvri_figures(
@@ -108,7 +116,10 @@ pub fn naustvri_figures(
     ensures figures { figures.new
         ≡ figures_totals table.old events.now answers.old figures.old }
 {
-    tally::list(table, events, answers, figures)
+    match tally::list(table, events, answers, figures) {
+        Ok(()) => DONE,
+        Err(refusal) => u8::from(refusal),
+    }
 }
 
 pub fn naustvri_lamps(table: &[u8]) -> lamps::Lamps

@@ -1,15 +1,16 @@
 -- One total after another gets its 1: what was added before leaves room at every other place.
 use Prim.Native.Nat.{ℕ, ◌+◌, ◌<◌, ◌≤◌}
-use mathlib.Core.Path.{◌≡◌, sym, ap, ◌∙◌, subst}
-use mathlib.Core.Bool.{Bool, true}
+use mathlib.Core.Path.{◌≡◌, refl, sym, ap, ◌∙◌, subst}
+use mathlib.Core.Bool.{Bool, true, false}
 use mathlib.Core.List.{List}
 use native.Mathlib.Omega.{arith}
+use mir.Val.{bool_byte}
 use Rattle.octets.proofs.Tests.{by_so}
 use Rattle.tally.specs.Places as place
 use Rattle.tally.specs.Shares.{at, one}
 use Rattle.tally.specs.Entry.{added}
 use Rattle.tally.specs.Room.{HasPlace, HasRoomFor}
-use Rattle.tally.proofs.Placed.{at_off}
+use Rattle.tally.proofs.Placed.{at_off, one-most}
 use Rattle.tally.proofs.Added.{length-added, added_at, added-added, at_nothing}
 
 pub has-place : (w : ℕ) {f : List ℕ} → HasRoomFor w f → (p : ℕ) → p < place.figures → HasPlace w f p
@@ -25,6 +26,19 @@ module _ (f : List ℕ) {g : List ℕ} (m : ℕ → ℕ) (before : g ≡ added m
   pub still-place : (w p : ℕ) → HasPlace w f p → m p ≡ 0 → HasPlace w g p
   still-place w p h z =
       subst (λ (k : List ℕ). HasPlace w k p) (sym before) (omega (arith, length-added m f), omega (arith, added_at m f p h.0))
+
+-- a test as a number
+is_one : (b : Bool) → bool_byte b ≡ one b
+is_one true = refl
+is_one false = refl
+
+-- where n is a test as a number, adding n is adding 1 where the test holds, and asks no more room than adding 1
+module _ {n : ℕ} (b : Bool) (is : n ≡ bool_byte b) (p : ℕ) where
+  pub added_if : (f : List ℕ) {g : List ℕ} → g ≡ added (at p n) f → g ≡ added (at p (one b)) f
+  added_if f e = e ∙ ap (λ (m : ℕ). added (at p m) f) (is ∙ is_one b)
+
+  pub place_if : (f : List ℕ) → HasPlace 1 f p → HasPlace n f p
+  place_if f h = (h.0, omega (arith, h.1, one-most b, is, is_one b))
 
 -- an event is added to the totals f at five places: seizure, release and loss, the loss by its levels, and the number k
 module _ (f : List ℕ) (h : HasRoomFor 1 f) (seizure release lost : Bool) where

@@ -9,3 +9,5 @@ pub mod Told
 pub mod Tallied
 pub mod Whole
 pub mod Determined
+pub mod Losses
+pub mod Results

@@ -1,5 +1,7 @@
 -- This is 02, L1, "The day's figures": what a list that is to be added gives back and leaves in table, answers and totals.
-use Rattle.std.specs.Prelude.{ℕ, zero, suc, ◌+◌, Bool, true, cond, ◌&&◌, List, [], ◌∷◌, length, get_or, eqb, ltb}
+use Rattle.std.specs.Prelude.{ℕ, zero, suc, ◌+◌, Bool, true, cond, ◌&&◌, List, [], ◌∷◌, length, get_or, eqb, ltb, Result, Ok, Err}
+use Rattle.tally.specs.declared.Refused.{Refused}
+use Rattle.tally.specs.declared.Refused.TheVariants.{WrongLength, TooManyLists}
 use Rattle.rules.specs.Numbers.{done, wrong_length}
 use Rattle.rules.specs.Records.{records}
 use Rattle.route.specs.Entries.{events_in, list_lengths, list_table, list_answers}
@@ -30,6 +32,14 @@ added n (x ∷ f) = (x + n 0) ∷ added (λ j. n (suc j)) f
 -- the lengths are those of a list, and there are 95 totals
 unfoldable pub figures_lengths : List ℕ → List ℕ → List ℕ → List ℕ → Bool
 figures_lengths t es places f = list_lengths t es places && eqb (length f) place.figures
+
+abbrev pub refused_number : Refused → ℕ  -- the number of a refusal
+refused_number WrongLength = wrong_length
+refused_number TooManyLists = too_many_lists
+
+abbrev pub number_of : Result Unit Refused → ℕ  -- the number by which the entry's result is given back
+number_of (Ok u) = done
+number_of (Err refusal) = refused_number refusal
 
 unfoldable pub figures_number : List ℕ → List ℕ → List ℕ → List ℕ → ℕ  -- 0, 20 or 60
 figures_number t es places f = cond (figures_lengths t es places f) (cond (has_room f) done too_many_lists) wrong_length

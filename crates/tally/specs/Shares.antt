@@ -1,7 +1,9 @@
 -- This is 02, L1, "The day's figures": what an event adds to each total, and what a list adds, in any layout.
-use Rattle.std.specs.Prelude.{ℕ, ◌+◌, Bool, cond, ◌&&◌, ◌||◌, List, [], ◌∷◌, eqb}
+use Rattle.std.specs.Prelude.{ℕ, ◌+◌, Bool, cond, ◌&&◌, ◌||◌, List, [], ◌∷◌, eqb, Option, Some, None}
+use Rattle.std.specs.Bool.{then_some}
 use Rattle.rules.specs.declared.event.Event.{Event}
 use Rattle.rules.specs.declared.answer.Answer.{Answer}
+use Rattle.rules.specs.declared.level.Level.{Level}
 use Rattle.rules.specs.Numbers as number
 use Rattle.rules.specs.Search.{count_to}
 use Rattle.rules.specs.Layout.{Layout}
@@ -29,6 +31,14 @@ adds kind taker k lost loser j =
     + at place.lost (one lost) j
     + at (place.lost_by_level taker loser) (one lost) j
     + at (place.answered k) 1 j
+
+abbrev pub level_lost : Option Level → ℕ  -- the number of the level under which a lost holder stood, or 0 where none was lost
+level_lost (Some loser) = loser.0
+level_lost None = 0
+
+-- the level under which a holder stood that answer a names as lost, if it names one
+abbrev pub lost_under : Answer → Option Level
+lost_under a = then_some a.call.present a.call.mark.level
 
 abbrev pub shares : Event → Answer → ℕ → ℕ  -- what event e, answered by a, adds to total j
 shares e a j = adds e.kind e.mark.level.0 a.number a.call.present a.call.mark.level.0 j

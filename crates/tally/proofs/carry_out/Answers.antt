@@ -8,19 +8,19 @@ use Rattle.tally.proofs.Rooms.{place_less}
 use Rattle.tally.proofs.Tallied.{list-place, list_gained}
 use Rattle.tally.proofs.carry_out.Goals as goal
 
-pub add_list-requires-clause-has_place : goal.add_list-requires-clause-has_place
-add_list-requires-clause-has_place c =
+pub add_list-requires-clause-lists_place : goal.add_list-requires-clause-lists_place
+add_list-requires-clause-lists_place c =
     let a = c.args in
     list-place a.t.now a.es.now a.totals.now a.n c.each.ensures.totals 1 place.lists (none-lists records a.t.now (events_to a.es.now a.n)) (place_less place.lists (omega arith) (omega arith) c.requires.has_room_for)
 
-pub add_list-requires-clause-has_place_2 : goal.add_list-requires-clause-has_place_2
-add_list-requires-clause-has_place_2 c =
+pub add_list-requires-clause-start_place : goal.add_list-requires-clause-start_place
+add_list-requires-clause-start_place c =
     let a = c.args in
     let most = c.holders-start.ensures.most in
     list-place a.t.now a.es.now a.totals.now a.n c.each.ensures.totals c.holders-start.result place.start (none-start records a.t.now (events_to a.es.now a.n)) (place_less place.start (omega arith) (omega arith) c.requires.has_room_for)
 
-pub add_list-requires-clause-has_place_3 : goal.add_list-requires-clause-has_place_3
-add_list-requires-clause-has_place_3 c =
+pub add_list-requires-clause-end_place : goal.add_list-requires-clause-end_place
+add_list-requires-clause-end_place c =
     let a = c.args in
     let most = c.holders.ensures.most in
     list-place a.t.now a.es.now a.totals.now a.n c.each.ensures.totals c.holders.result place.end (none_end records a.t.now (events_to a.es.now a.n)) (place_less place.end (omega arith) (omega arith) c.requires.has_room_for)

@@ -1,11 +1,8 @@
 -- The loop has counted the circuits before i that have a holder.
-use Rattle.std.proofs.Common.{◌≡◌, ◌-◌, ◌≤◌}
+use Rattle.std.proofs.Common.{◌≡◌, ◌≤◌}
 use Rattle.rules.specs.Search.{count_to}
 use Rattle.rules.specs.Records.{circuit_at}
 use Rattle.tally.proofs.holders.Given as goal
 
 abbrev pub invariant-loop-i : goal.invariant-loop-i
-invariant-loop-i l = (l.i ≤ l.n) × (l.k ≡ count_to (λ i. (circuit_at l.t i).holder.present) l.i)
-
-abbrev pub decreases-loop-i : goal.decreases-loop-i
-decreases-loop-i l = l.n - l.i
+invariant-loop-i l = (l.k ≤ l.i) × (l.k ≡ count_to (λ i. (circuit_at l.t i).holder.present) l.i)

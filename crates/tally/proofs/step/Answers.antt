@@ -11,11 +11,13 @@ count-requires c =
     let o = event_in a.es.now a.k in
     let number = number_of records t o c.apply-told.ensures.told c.number_told.ensures in
     let level = level_of records t o c.apply-told.ensures.told c.level_told.ensures in
-    let loses = told-lost t o a.places.now a.k c.requires.answer_size_in_bounds c.apply-told.ensures.answers c.answer_at.ensures c.lost_call.ensures c.is_lost-lost.ensures in
+    let loses =
+    told-lost t o a.places.now a.k c.requires.answer_size_in_bounds c.apply-told.ensures.answers c.answer_at.ensures c.lost_call.ensures c.is_lost.ensures level c.then_some-lost.ensures
+    in
     record {
       has_room_for = c.requires.has_room_for;
-      number_bound = counted-number t o c.read-e.ensures number loses level;
-      loser_bound = counted-place t o c.read-e.ensures number loses level;
+      number_bound = counted-number t o c.read-e.ensures number loses;
+      loser_bound = counted-place t o c.read-e.ensures number loses;
     }
 
 pub returns-clause-totals : goal.returns-clause-totals
@@ -25,5 +27,7 @@ returns-clause-totals c =
     let o = event_in a.es.now a.k in
     let number = number_of records t o c.apply-told.ensures.told c.number_told.ensures in
     let level = level_of records t o c.apply-told.ensures.told c.level_told.ensures in
-    let loses = told-lost t o a.places.now a.k c.requires.answer_size_in_bounds c.apply-told.ensures.answers c.answer_at.ensures c.lost_call.ensures c.is_lost-lost.ensures in
-    counted t o c.read-e.ensures number loses level a.totals.now c.count.ensures
+    let loses =
+    told-lost t o a.places.now a.k c.requires.answer_size_in_bounds c.apply-told.ensures.answers c.answer_at.ensures c.lost_call.ensures c.is_lost.ensures level c.then_some-lost.ensures
+    in
+    counted t o c.read-e.ensures number loses a.totals.now c.count.ensures

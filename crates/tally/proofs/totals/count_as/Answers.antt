@@ -1,14 +1,24 @@
 -- Three places, one after the other.
-use Rattle.tally.proofs.Counted.{released-place, lost-place, low_added}
+use Rattle.tally.specs.Places as place
+use Rattle.tally.proofs.Counted.{added_if, place_if, released-place, lost-place, low_added}
 use Rattle.tally.proofs.totals.count_as.Goals as goal
 
-pub bump_if-requires-2 : goal.bump_if-requires-2
-bump_if-requires-2 c = let a = c.args in λ t. released-place a.totals.now c.requires a.seizure a.release a.lost c.bump_if.ensures
+pub add-requires-2 : goal.add-requires-2
+add-requires-2 c =
+    let a = c.args in
+    let seized = added_if a.seizure c.from.ensures place.seized a.totals.now c.add.ensures in
+    place_if a.release c.from-2.ensures place.released c.add.new.totals (released-place a.totals.now c.requires a.seizure a.release a.lost seized)
 
-pub bump_if-requires-3 : goal.bump_if-requires-3
-bump_if-requires-3 c = let a = c.args in λ t. lost-place a.totals.now c.requires a.seizure a.release a.lost c.bump_if.ensures c.bump_if-2.ensures
+pub add-requires-3 : goal.add-requires-3
+add-requires-3 c =
+    let a = c.args in
+    let seized = added_if a.seizure c.from.ensures place.seized a.totals.now c.add.ensures in
+    let released = added_if a.release c.from-2.ensures place.released c.add.new.totals c.add-2.ensures in
+    place_if a.lost c.from-3.ensures place.lost c.add-2.new.totals (lost-place a.totals.now c.requires a.seizure a.release a.lost seized released)
 
 pub returns : goal.returns
 returns c =
     let a = c.args in
-    low_added a.totals.now c.requires a.seizure a.release a.lost c.bump_if.ensures c.bump_if-2.ensures c.bump_if-3.ensures
+    let seized = added_if a.seizure c.from.ensures place.seized a.totals.now c.add.ensures in
+    let released = added_if a.release c.from-2.ensures place.released c.add.new.totals c.add-2.ensures in
+    low_added a.totals.now c.requires a.seizure a.release a.lost seized released (added_if a.lost c.from-3.ensures place.lost c.add-2.new.totals c.add-3.ensures)

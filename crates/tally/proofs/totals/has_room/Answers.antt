@@ -1,11 +1,7 @@
--- The number of lists, then every total.
-use Rattle.std.proofs.Common.{Bool, ◌&&◌, get_or, ap, ◌∙◌}
-use lib.Dec.{ltb}
-use Rattle.tally.specs.Entry.{most_lists, full, below_to, has_room}
+-- Where there are few enough lists, every total tells.
+use Rattle.tally.proofs.Rooms.{by_each}
 use Rattle.tally.proofs.totals.has_room.Goals as goal
 
-pub returns : goal.returns
-unfolding has_room
-returns c =
-    let f = c.args.totals.now in
-    c.both.ensures ∙ ap (λ (b : Bool). ltb (get_or f 0 0) most_lists && b) (c.none_full.ensures ∙ ap (below_to full f) c.requires)
+pub returns-then-totals-lt-MOST_LISTS : goal.returns-then-totals-lt-MOST_LISTS
+returns-then-totals-lt-MOST_LISTS c =
+    by_each c.args.totals.now c.none_full.result c.told-totals c.if-totals-lt-MOST_LISTS.true c.none_full.ensures
