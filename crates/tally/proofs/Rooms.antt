@@ -44,8 +44,5 @@ room_for f all h =
     let each = below_each full f place.figures (and_right (ltb (get_or f place.lists 0) most_lists) (below_to full f place.figures) h) in
     record { all = all; room = λ j l. omega (arith, each j l) }
 
-pub room_less : {m n : ℕ} {f : List ℕ} → m ≤ n → HasRoomFor n f → HasRoomFor m f
-room_less l h = record { all = h.all; room = λ j b. omega (arith, h.room j b) }
-
 pub place_less : {m n : ℕ} {f : List ℕ} (p : ℕ) → p < place.figures → m ≤ n → HasRoomFor n f → HasPlace m f p
 place_less p b l h = (omega (arith, h.all), omega (arith, h.room p b))

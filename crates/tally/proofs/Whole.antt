@@ -38,10 +38,6 @@ module _ (t es places f : List ℕ) where
     unfolding figures_lengths
     right_list = and_left (list_lengths t es places) (eqb (length f) place.figures) right
 
-    pub right_totals : length f ≡ place.figures
-    unfolding figures_lengths
-    right_totals = eqb-true (length f) place.figures (and_right (list_lengths t es places) (eqb (length f) place.figures) right)
-
     pub too_many_lem : has_room f ≡ false → Leaves too_many_lists t places f
     unfolding figures_number is_added
     too_many_lem h = (
