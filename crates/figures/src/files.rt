@@ -21,12 +21,7 @@ fn opened(
     let mut file = streams::open(rt, name).map_err(|why| streams::fail(rt, name, why))?;
     let pair = pair::taken(&mut file, table, totals);
     match pair.ended {
-        Ok(End::Failed(why))
-        | Err(
-            TooMany {
-                end: End::Failed(why),
-            },
-        ) => { Err(streams::fail(rt, name, why)) }
+        Ok(End::Failed(why)) | Err(TooMany(End::Failed(why))) => Err(streams::fail(rt, name, why)),
         _ => Ok(pair),
     }
 }

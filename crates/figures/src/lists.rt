@@ -15,9 +15,7 @@ struct Refused;
 
 // This says that a list was one too many, and how its reading ended.
 #[derive(Clone, Copy)]
-pub struct TooMany {
-    pub end: End,
-}
+pub struct TooMany(pub End);
 
 // Applies a list of events to the table, and adds it to the totals.
 fn add(table: &mut [u8], events: &[u8], totals: &mut [u64; FIGURES]) -> Result<(), Refused>
@@ -48,11 +46,10 @@ fn turn<R: Read>(
 {
     let mut room = streams::list_room();
     let list = streams::next_list(file, &mut room);
-    let end = list.end;
     if first || !list.events.is_empty() {
-        add(table, list.events, totals).map_err(|_| TooMany { end })?;
+        add(table, list.events, totals).map_err(|_| TooMany(list.end))?;
     }
-    Ok(end)
+    Ok(list.end)
 }
 
 // Takes the lists of the file one after another, each of 4,096 events but the last, and says how the last one ended. At most 65,536 come after
