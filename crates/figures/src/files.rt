@@ -3,23 +3,16 @@ ghost use Rattle.std.specs.Prelude.{◌+◌, ◌*◌, ◌≤◌, length};
 ghost use Rattle.tally.specs.Entry.{most_lists};
 ghost use Rattle.figures.specs.Output.{Sized};
 
-use crate::lists::TooMany;
+use crate::lists::{Sheet, TooMany};
 use crate::pair;
 use crate::pair::Pair;
 use streams::{End, Reported, TABLE_ROOM};
 use tally::totals::FIGURES;
 
 // Applies the events in the file of this name to the table; where it cannot be opened or read, standard error names it.
-fn opened(
-    rt: &HostRuntime,
-    name: &[u8],
-    table: &mut [u8],
-    totals: &mut [u64; FIGURES],
-) -> Result<Pair, Reported>
-    requires { Sized (length table.old) }
-{
+fn opened(rt: &HostRuntime, name: &[u8], sheet: &mut Sheet) -> Result<Pair, Reported> {
     let mut file = streams::open(rt, name).map_err(|why| streams::fail(rt, name, why))?;
-    let pair = pair::taken(&mut file, table, totals);
+    let pair = pair::taken(&mut file, sheet);
     match pair.ended {
         Ok(End::Failed(why)) | Err(TooMany(End::Failed(why))) => Err(streams::fail(rt, name, why)),
         _ => Ok(pair),
@@ -27,17 +20,10 @@ fn opened(
 }
 
 // Applies the events in the file that argument i names to the table.
-fn events(
-    rt: &HostRuntime,
-    i: usize,
-    table: &mut [u8],
-    totals: &mut [u64; FIGURES],
-) -> Result<Pair, Reported>
-    requires { Sized (length table.old) }
-{
+fn events(rt: &HostRuntime, i: usize, sheet: &mut Sheet) -> Result<Pair, Reported> {
     let mut space = streams::named::space();
     let n = streams::named::name(rt, i, &mut space);
-    opened(rt, &space[..n], table, totals)
+    opened(rt, &space[..n], sheet)
 }
 
 // Takes the table in the file that argument i names, and the events in the file that the next argument names.
@@ -46,5 +32,9 @@ pub fn taken(rt: &HostRuntime, i: usize, totals: &mut [u64; FIGURES]) -> Result<
 {
     let mut space = [0u8; TABLE_ROOM];
     let n = streams::named::table(rt, i, &mut space)?;
-    events(rt, i + 1, &mut space[..n], totals)
+    let mut sheet = Sheet {
+        table: &mut space[..n],
+        totals,
+    };
+    events(rt, i + 1, &mut sheet)
 }

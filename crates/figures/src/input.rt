@@ -1,4 +1,5 @@
 // This module takes the table from circuits.bin and the events from standard input.
+use crate::lists::Sheet;
 use crate::{pair, print};
 use streams::{Reported, TABLE_ROOM};
 use tally::totals::FIGURES;
@@ -9,7 +10,11 @@ pub fn figures(rt: &HostRuntime) -> Result<(), Reported> {
     let mut space = [0u8; TABLE_ROOM];
     let n = streams::table(rt, &mut space)?;
     let mut totals = [0u64; FIGURES];
-    let pair = pair::taken(&mut rt.stdin(), &mut space[..n], &mut totals);
+    let mut sheet = Sheet {
+        table: &mut space[..n],
+        totals: &mut totals,
+    };
+    let pair = pair::taken(&mut rt.stdin(), &mut sheet);
     print::totals(rt, pair.start, pair.end, &totals)?;
     match pair.ended {
         Ok(end) => streams::ended(rt, end),

@@ -17,54 +17,51 @@ struct Refused;
 #[derive(Clone, Copy)]
 pub struct TooMany(pub End);
 
-// Applies a list of events to the table, and adds it to the totals.
-fn add(table: &mut [u8], events: &[u8], totals: &mut [u64; FIGURES]) -> Result<(), Refused>
-    requires sized { Sized (length table.old) }
-    requires event_size_len { length events.now % event_size ≡ 0 }
-    requires events_len_bound { length events.now ≤ event_size * most_events }
-    ensures added { is_ok result ≡ has_room totals.old }
-    ensures table { table.new ≡ listed_table table.old events.now totals.old }
-    ensures totals { totals.new ≡ listed_totals table.old events.now totals.old }
-{
-    let n = events.len();
-    let mut places = streams::list_room();
-    if tally::list(table, events, &mut places[..n], totals) == DONE {
-        Ok(())
-    } else {
-        Err(Refused)
-    }
+// This is a tally sheet: a table of 1 to 256 circuits, to which events are applied, and the totals, to which what they come to is added.
+#[derive(Drop)]
+pub struct Sheet<'a> {
+    pub table: &'a mut [u8],
+    pub totals: &'a mut [u64; FIGURES],
+    ghost sized: { Sized (length table.now) },
 }
 
-// Takes one list from the file, and says how it ended. It is added where it has an event, or is the first.
-fn turn<R: Read>(
-    file: &mut R,
-    first: bool,
-    table: &mut [u8],
-    totals: &mut [u64; FIGURES],
-) -> Result<End, TooMany>
-    requires { Sized (length table.old) }
-{
-    let mut room = streams::list_room();
-    let list = streams::next_list(file, &mut room);
-    if first || !list.events.is_empty() {
-        add(table, list.events, totals).map_err(|_| TooMany(list.end))?;
+impl Sheet<'_> {
+    // Applies a list of events to the table, and adds it to the totals.
+    fn add(&mut self, events: &[u8]) -> Result<(), Refused>
+        requires event_size_len { length events.now % event_size ≡ 0 }
+        requires events_len_bound { length events.now ≤ event_size * most_events }
+        ensures added { is_ok result ≡ has_room self.old.totals.now }
+        ensures table { self.new.table.now ≡ listed_table self.old.table.now events.now self.old.totals.now }
+        ensures totals { self.new.totals.now ≡ listed_totals self.old.table.now events.now self.old.totals.now }
+    {
+        let mut places = streams::list_room();
+        let places = &mut places[..events.len()];
+        let totals = &mut *self.totals;
+        if tally::list(self.table, events, places, totals) == DONE {
+            Ok(())
+        } else {
+            Err(Refused)
+        }
     }
-    Ok(list.end)
-}
 
-// Takes the lists of the file one after another, each of 4,096 events but the last, and says how the last one ended. At most 65,536 come after
-// the first, since totals take no more: one of them is refused at the latest.
-pub fn all<R: Read>(
-    file: &mut R,
-    table: &mut [u8],
-    totals: &mut [u64; FIGURES],
-) -> Result<End, TooMany>
-    requires { Sized (length table.old) }
-{
-    let mut end = turn(file, true, table, totals)?;
-    for _ in 0..MOST_LISTS {
-        let End::Full = end else { break };
-        end = turn(file, false, table, totals)?;
+    // Takes one list from the file, and says how it ended. It is added where it has an event, or is the first.
+    fn turn<R: Read>(&mut self, file: &mut R, first: bool) -> Result<End, TooMany> {
+        let mut room = streams::list_room();
+        let list = streams::next_list(file, &mut room);
+        if first || !list.events.is_empty() {
+            self.add(list.events).map_err(|_| TooMany(list.end))?;
+        }
+        Ok(list.end)
     }
-    Ok(end)
+
+    // Takes the lists of the file one after another, each of 4,096 events but the last, and says how the last one ended. At most 65,536 come
+    // after the first, since totals take no more: one of them is refused at the latest.
+    pub fn all<R: Read>(&mut self, file: &mut R) -> Result<End, TooMany> {
+        let mut end = self.turn(file, true)?;
+        for _ in 0..MOST_LISTS {
+            let End::Full = end else { break };
+            end = self.turn(file, false)?;
+        }
+        Ok(end)
+    }
 }

@@ -3,8 +3,7 @@ ghost use Rattle.std.specs.Prelude.{◌≤◌, length};
 ghost use Rattle.rules.specs.Records.{most_circuits};
 ghost use Rattle.figures.specs.Output.{Sized};
 
-use crate::lists;
-use crate::lists::TooMany;
+use crate::lists::{Sheet, TooMany};
 use std::io::Read;
 use streams::End;
 use tally::totals::{FIGURES, LISTS};
@@ -21,14 +20,12 @@ pub struct Pair {
 
 // Applies the events of the file to the table and adds them to the totals. A list that is refused adds nothing, and where none was added, no
 // holders are counted.
-pub fn taken<R: Read>(file: &mut R, table: &mut [u8], totals: &mut [u64; FIGURES]) -> Pair
-    requires { Sized (length table.old) }
-{
-    let before = totals[LISTS];
-    let start = tally::holders(table);
-    let ended = lists::all(file, table, totals);
-    let end = tally::holders(table);
-    if totals[LISTS] == before {
+pub fn taken<R: Read>(file: &mut R, sheet: &mut Sheet) -> Pair {
+    let before = sheet.totals[LISTS];
+    let start = tally::holders(sheet.table);
+    let ended = sheet.all(file);
+    let end = tally::holders(sheet.table);
+    if sheet.totals[LISTS] == before {
         return Pair {
             start: 0,
             end: 0,

@@ -2,5 +2,5 @@
 use Rattle.figures.proofs.Tables.{sized}
 use Rattle.figures.proofs.files.taken.Goals as goal
 
-pub events-requires : goal.events-requires
-events-requires c = sized _ c.in_ok-n.ensures.valid
+pub invariant_of-sheet : goal.invariant_of-sheet
+invariant_of-sheet c = record { sized = sized _ c.in_ok-n.ensures.valid }

@@ -2,5 +2,5 @@
 use Rattle.figures.proofs.Tables.{sized}
 use Rattle.figures.proofs.input.figures.Goals as goal
 
-pub taken-pair-requires : goal.taken-pair-requires
-taken-pair-requires c = sized _ c.in_ok-n.ensures.valid
+pub invariant_of-sheet : goal.invariant_of-sheet
+invariant_of-sheet c = record { sized = sized _ c.in_ok-n.ensures.valid }
