@@ -1,114 +1,83 @@
 // These rows ask, and leave the scene as it is.
-ghost use Rattle.std.specs.Prelude.{◌<◌, ◌≤◌, length};
-
-use crate::scene::{Scene, TABLE};
-use crate::{field, part, script, text};
+use crate::page::Page;
+use crate::route_table::Table;
+use crate::script::Row;
+use crate::{field, part};
 use rules::level::Level;
 use rules::mark::Mark;
-use std::io::Stdout;
+use rules::verdict::Check;
 
 // Writes the circuit that a call of some level and domain gets.
-fn chosen(out: Stdout, row: &[u8], t: &[u8])
-    requires { 6 ≤ length row.now }
-{
-    let level = Level::in_record(row[0]);
-    let domain = octets::read_five(row, 1);
-    text::found(out, choice::choose(t, Mark { level, domain }));
+fn chosen(page: Page, row: &Row, t: &[u8]) {
+    let level = Level::in_record(row.first());
+    let domain = row.part(1);
+    page.found(choice::choose(t, Mark { level, domain }));
 }
 
 // Writes where the call with some reference holds, and where it has reserved.
-fn stands(out: Stdout, row: &[u8], t: &[u8])
-    requires { 5 ≤ length row.now }
-{
-    let reference = octets::read_five(row, 0);
-    text::found(out, choice::held_by(t, reference));
-    text::found(out, choice::reserved_by(t, reference));
-}
-
-// Writes a word of lamps.
-fn word(out: Stdout, words: [u64; 4], k: usize)
-    requires { k < 4 }
-{
-    text::digits(out, words[k], 16);
+fn stands(page: Page, row: &Row, t: &[u8]) {
+    let reference = row.part(0);
+    page.found(choice::held_by(t, reference));
+    page.found(choice::reserved_by(t, reference));
 }
 
 // Writes the lamp map: number and bad record, lit, the words with the highest first, the lowest lit lamp.
-fn lamp_map(out: Stdout, t: &[u8]) {
+fn lamp_map(page: Page, t: &[u8]) {
     let m = lamps::map(t);
     let words = m.words;
-    text::checked(out, m.number, m.detail);
-    text::number(out, m.lit as u64);
-    word(out, words, 3);
-    word(out, words, 2);
-    word(out, words, 1);
-    word(out, words, 0);
-    text::found(out, lamps::lowest(words));
+    page.checked(Check {
+        number: m.number,
+        detail: m.detail,
+    });
+    page.number(m.lit);
+    for word in words.iter().rev() {
+        page.lamps(*word);
+    }
+    page.found(lamps::lowest(words));
 }
 
 // Writes the numbers of the five levels.
-fn levels(out: Stdout) {
-    let numbers = Level::numbers();
-    text::barred(out, &numbers, 0, 5);
+fn levels(page: Page) {
+    page.barred(&Level::numbers());
 }
 
 // Writes what the check gives for a table.
-fn checked(out: Stdout, t: &[u8]) {
-    let check = validity::check(t);
-    text::checked(out, check.number, check.detail);
-}
-
-// Writes what the check gives for the first n octets of a table, with one octet changed.
-fn tried(out: Stdout, mut t: [u8; TABLE], n: usize, place: u8, x: u8) {
-    t[place as usize] = x;
-    checked(out, script::first(&t, n));
+fn checked(page: Page, t: &[u8]) {
+    page.checked(validity::check(t));
 }
 
 // Writes which octet of a table is meant, and what the check gives where that octet is changed to each value of the row in turn.
-fn changed(out: Stdout, scene: Scene, row: &[u8]) {
-    let table = scene.table;
-    let place = script::octet(row, 0);
-    let mut j = 1;
-    text::digits(out, place as u64, 2);
-    while j < row.len() {
-        tried(out, table, scene.length, place, row[j]);
-        j += 1;
+fn changed(page: Page, row: &Row, table: &Table) {
+    let place = row.first();
+    page.octet(place);
+    for octet in row.rest() {
+        checked(page, table.changed(place, *octet).octets());
     }
 }
 
-// Answers what a letter asks.
-fn answer(out: Stdout, scene: Scene, letter: u8, row: &[u8], given: &[u8], t: &[u8])
-    requires { 34 ≤ length row.now }
-{
-    match letter {
-        b'P' => field::precedence(out, given),
-        b'R' => field::reference(out, given),
-        b'Q' | b'S' => field::written(out, letter, row),
-        b'F' => part::found(out, given),
-        b'D' => part::step(out, given),
-        b'I' => part::written(out, given),
-        b'L' => part::long(out, given),
-        b'V' => checked(out, t),
-        b'G' => chosen(out, row, t),
-        b'W' => stands(out, row, t),
-        b'X' => changed(out, scene, given),
-        b'N' => levels(out),
-        _ => lamp_map(out, t),
+// Answers what the letter of a row asks. The letters are those that the script's head lists, and an enum would name each once more.
+fn answer(page: Page, row: &Row, table: &Table) {
+    match row.letter {
+        b'P' => field::precedence(page, row),
+        b'R' => field::reference(page, row),
+        b'Q' => field::written(page, row, field::write_precedence),
+        b'S' => field::written(page, row, field::write_reference),
+        b'F' => part::found(page, row.given()),
+        b'D' => part::step(page, row),
+        b'I' => part::written(page, row),
+        b'L' => part::long(page, row),
+        b'V' => checked(page, table.octets()),
+        b'G' => chosen(page, row, table.octets()),
+        b'W' => stands(page, row, table.octets()),
+        b'X' => changed(page, row, table),
+        b'N' => levels(page),
+        _ => lamp_map(page, table.octets()),
     }
 }
 
 // Answers a row about the table of a scene.
-pub fn asked(out: Stdout, scene: Scene, letter: u8, row: &[u8], given: &[u8])
-    requires { 34 ≤ length row.now }
-{
-    let table = scene.table;
-    text::letter(out, b'=');
-    answer(
-        out,
-        scene,
-        letter,
-        row,
-        given,
-        script::first(&table, scene.length),
-    );
-    text::letter(out, b'\n');
+pub fn asked(page: Page, table: &Table, row: &Row) {
+    page.put(b"=");
+    answer(page, row, table);
+    page.put(b"\n");
 }

@@ -5,21 +5,20 @@
 
 mod asked;
 mod field;
+mod page;
 mod part;
+mod played;
+mod route_table;
 mod scene;
 mod script;
-mod text;
+
+use page::Page;
 
 // The script has room for so many letters.
 const LETTERS: usize = 128 * 1024;
 
-// Gives room for the script.
-fn room() -> [u8; LETTERS] {
-    [0; LETTERS]
-}
-
 fn main(rt: HostRuntime) {
-    let mut script = room();
+    let mut script = [0; LETTERS];
     let taken = streams::fill(&mut rt.stdin(), &mut script);
-    scene::play(rt.stdout(), script::first(&script, taken.octets));
+    scene::play(Page::new(rt.stdout()), &script[..taken.octets]);
 }

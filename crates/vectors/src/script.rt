@@ -1,52 +1,22 @@
-// This module reads the lines of the script, and takes octets from a row whether it has them or not.
-ghost use Rattle.std.specs.Prelude.{◌<◌, ◌≤◌, length};
+// This module reads the rows of the script.
+ghost use Rattle.std.specs.Prelude.{◌<◌, ◌≤◌, ◌+◌};
 
 use table::CIRCUIT_SIZE;
 
 // A row has at most so many octets: one, and those of a circuit, with one to spare.
 pub const ROW: usize = CIRCUIT_SIZE + 2;
 
-// Gives octet k of a row, or zero where there is none.
-pub fn octet(s: &[u8], k: usize) -> u8 {
-    if k < s.len() { s[k] } else { 0 }
-}
+// This octet stands in every place of a buffer before it is written.
+pub const UNWRITTEN: u8 = 0xee;
 
-// Gives a number, or the most that it may be where it is more.
-fn within(n: usize, most: usize) -> usize
-    ensures { result ≤ most }
-{
-    if n < most { n } else { most }
-}
-
-// Gives the first n octets, or all where there are fewer.
-pub fn first(s: &[u8], n: usize) -> &[u8] {
-    let m = within(n, s.len());
-    &s[0..m]
-}
-
-// Gives the octets after the first one.
-pub fn rest(s: &[u8]) -> &[u8] {
-    let from = within(1, s.len());
-    let end = s.len();
-    &s[from..end]
-}
-
-// Gives room for n octets, or for all where there are fewer.
-pub fn room(s: &mut [u8], n: usize) -> &mut [u8] {
-    let m = within(n, s.len());
-    &mut s[0..m]
-}
-
-// Gives the place of the end of the line that begins at octet `at`, or the length where no end follows.
-pub fn line_end(s: &[u8], at: usize) -> usize
-    requires { at ≤ length s.now }
-    ensures start { at ≤ result }
-    ensures end { result ≤ length s.now }
-{
-    match s[at..].iter().position(|letter| *letter == b'\n') {
-        Some(n) => at + n,
-        None => s.len(),
-    }
+// This is a row of the script: its letter, or 0 where the line is empty, and its octets, of which the line gives the first `count`. The others
+// are zero.
+#[derive(Drop)]
+pub struct Row {
+    pub letter: u8,
+    octets: [u8; ROW],
+    count: usize,
+    ghost in_bounds: { count ≤ 34 },
 }
 
 // Gives the value of a digit: 0 to 9, and a to f, whose letters stand one after a multiple of 16.
@@ -56,18 +26,60 @@ fn digit(c: u8) -> u8
     (c % 16 + 9 * (c / 64)) % 16
 }
 
-// Reads the octets of a line, two hexadecimal digits each, after a letter and a space, to the first column that has none, and gives how many there are.
-pub fn read(s: &[u8], octets: &mut [u8]) -> usize
-    requires { 34 ≤ length octets.old }
-{
-    let mut k = 0;
-    while k < ROW {
-        let high = octet(s, 3 * k + 2);
-        if high <= b' ' {
-            return k;
-        }
-        octets[k] = 16 * digit(high) + digit(octet(s, 3 * k + 3));
-        k += 1;
+// Gives the octet that stands in a column by two hexadecimal digits, or nothing where there is none.
+fn octet(column: &[u8]) -> Option<u8> {
+    let high = *column.first()?;
+    if high <= b' ' {
+        return None;
     }
-    k
+    let low = column.get(1).copied().unwrap_or(0);
+    Some(16 * digit(high) + digit(low))
+}
+
+impl Row {
+    // Reads a line: its letter and, after a space, its octets to the first column that has none.
+    pub fn read(line: &[u8]) -> Row {
+        let mut row = Row {
+            letter: line.first().copied().unwrap_or(0),
+            octets: [0; ROW],
+            count: 0,
+        };
+        let columns = line.get(2..).unwrap_or(&[]).chunks(3);
+        for octet in columns.map_while(octet) {
+            row.add(octet);
+        }
+        row
+    }
+
+    // Adds an octet that the line gives, where there is room.
+    fn add(&mut self, octet: u8) {
+        if self.count < ROW {
+            self.octets[self.count] = octet;
+            self.count += 1;
+        }
+    }
+
+    // Gives the first octet, or zero where there is none.
+    pub fn first(&self) -> u8 {
+        self.octets[0]
+    }
+
+    // Gives the N octets from octet `at` on.
+    pub fn part<const N: usize>(&self, at: usize) -> [u8; N]
+        requires { at + N ≤ 34 }
+    {
+        let mut part = [0; N];
+        part.copy_from_slice(&self.octets[at..at + N]);
+        part
+    }
+
+    // Gives the octets that the line gives.
+    pub fn given(&self) -> &[u8] {
+        &self.octets[..self.count]
+    }
+
+    // Gives the octets that the line gives after the first one.
+    pub fn rest(&self) -> &[u8] {
+        self.given().get(1..).unwrap_or(&[])
+    }
 }

@@ -1,0 +1,81 @@
+// This module writes the cells of an answer to standard output, each after a space.
+use rules::answer::NO_DETAIL;
+use rules::search::Found;
+use rules::verdict::Check;
+use std::fmt::Display;
+use std::io::{Print, Stdout};
+use std::iter;
+
+// This is where the script and its answers are written. What cannot be written is left out, since nobody is there to be told.
+#[derive(Clone, Copy)]
+pub struct Page {
+    out: Stdout,
+}
+
+impl Page {
+    pub fn new(out: Stdout) -> Page {
+        Page { out }
+    }
+
+    // Writes octets as they stand.
+    pub fn put(self, octets: &[u8]) {
+        let _ = self.out.write_all(octets);
+    }
+
+    // Writes what a format says.
+    fn print<D: Display + Drop>(self, text: D) {
+        let _ = self.out.print(text);
+    }
+
+    // Writes a number, at least two columns wide.
+    pub fn number<N: Display + Drop>(self, number: N) {
+        self.print(format_args!(" {number:2}"));
+    }
+
+    // Writes what the check gives: its number, and behind a stroke the bad record, where there is one.
+    pub fn checked(self, check: Check) {
+        let detail = check.detail;
+        self.number(check.number);
+        if detail != NO_DETAIL {
+            self.print(format_args!("/{detail}"));
+        }
+    }
+
+    // Writes a word of lamps by its hexadecimal digits.
+    pub fn lamps(self, word: u64) {
+        self.print(format_args!(" {word:016x}"));
+    }
+
+    // Writes the circuit that a search found, or a dash.
+    pub fn found(self, circuit: Found) {
+        match circuit {
+            Found::At(i) => self.number(i),
+            Found::Nothing => self.put(b"  -"),
+        }
+    }
+
+    // Writes an octet by its hexadecimal digits.
+    pub fn octet(self, octet: u8) {
+        self.print(format_args!(" {octet:02x}"));
+    }
+
+    pub fn octets(self, octets: &[u8]) {
+        for octet in octets {
+            self.octet(*octet);
+        }
+    }
+
+    // Writes a bar, and after it the octets.
+    pub fn barred(self, octets: &[u8]) {
+        self.put(b" |");
+        self.octets(octets);
+    }
+
+    // Writes a bar, and after it the first `size` octets of a buffer, with zeros for those that it does not have.
+    pub fn buffer(self, buffer: &[u8], size: usize) {
+        self.put(b" |");
+        for octet in buffer.iter().copied().chain(iter::repeat(0)).take(size) {
+            self.octet(octet);
+        }
+    }
+}
