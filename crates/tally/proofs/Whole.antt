@@ -5,9 +5,8 @@ use mathlib.Core.Bool.{Bool, true, false, ◌&&◌}
 use mathlib.Core.List.{List, flatten}
 use lib.ListN.{length}
 use lib.Dec.{eqb}
-use borrow.Author.Tests.{eqb-true}
 use Rattle.octets.specs.Span.{put}
-use Rattle.octets.proofs.Tests.{if_true, if_false, and_left, and_right}
+use Rattle.octets.proofs.Tests.{if_true, if_false, and_left}
 use Rattle.rules.specs.Numbers.{done, wrong_length}
 use Rattle.rules.specs.Run.{run, answer_records}
 use Rattle.rules.specs.Records.{records, event_size}

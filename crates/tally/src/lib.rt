@@ -19,7 +19,9 @@ ghost use Rattle.tally.specs.Entry.{added, number_of, figures_number, figures_ta
 use events::EVENT_SIZE;
 use rules::level::Level;
 use rules::number;
+use rules::part::Side;
 use rules::verdict::Verdict;
+use table::Record;
 use totals::{FIGURES, Totals};
 
 // A list is refused by this number where no list can be added.
@@ -55,7 +57,11 @@ pub fn holders(t: &[u8]) -> u64
 {
     let mut k: u64 = 0;
     for i in 0..table::count(t) {
-        k += u64::from(table::held_at(t, i));
+        k += u64::from(Record {
+            table: t,
+            number: i,
+        }
+        .present(Side::Holder));
     }
     k
 }
