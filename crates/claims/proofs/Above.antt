@@ -13,8 +13,7 @@ use Rattle.rules.specs.declared.circuit.Circuit.{Circuit}
 use Rattle.rules.specs.declared.event.Event.{Event}
 use Rattle.rules.specs.declared.outcome.Act.TheVariants.{Seize}
 use Rattle.rules.specs.declared.outcome.Refusal.TheVariants.{MarkDiffers}
-use Rattle.std.specs.Prelude.{Ok, Err}
-use Rattle.rules.specs.declared.outcome.Deed.TheVariants.{Do}
+use Rattle.std.specs.Prelude.{Err}
 use Rattle.rules.specs.Outcome.{does}
 use Rattle.rules.specs.Circuit.{outranks, same_mark, unreserved, preemptable, takeable}
 use Rattle.rules.specs.Numbers.{done}

@@ -10,7 +10,7 @@ use Rattle.rules.specs.declared.circuit.Circuit.{Circuit}
 use Rattle.rules.specs.declared.event.Event.{Event}
 use Rattle.rules.specs.declared.outcome.Refusal.{Refusal}
 use Rattle.rules.specs.declared.outcome.Refusal.TheVariants.{Malformed}
-use Rattle.rules.specs.Outcome.{Outcome, does}
+use Rattle.rules.specs.Outcome.{Outcome}
 use Rattle.std.specs.Prelude.{Ok, Err}
 use Rattle.rules.specs.declared.outcome.Deed.TheVariants.{Do, Clock}
 use Rattle.rules.specs.declared.verdict.Reason.{Reason}

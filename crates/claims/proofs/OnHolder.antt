@@ -11,12 +11,11 @@ use Rattle.octets.proofs.Tests.{and_both}
 use Rattle.rules.specs.declared.circuit.Circuit.{Circuit}
 use Rattle.rules.specs.declared.event.Event.{Event}
 use Rattle.rules.specs.declared.answer.Answer.{Answer}
-use Rattle.std.specs.Prelude.{Option, Ok, Err}
+use Rattle.std.specs.Prelude.{Option, Err}
 use Rattle.rules.specs.declared.outcome.Act.{Act}
 use Rattle.rules.specs.declared.outcome.Act.TheVariants.{Unmark, Answered}
 use Rattle.rules.specs.declared.outcome.Refusal.TheVariants.{Malformed, NotThere}
 use Rattle.rules.specs.Outcome.{Outcome, does}
-use Rattle.rules.specs.declared.outcome.Deed.TheVariants.{Do}
 use Rattle.rules.specs.Numbers.{cause_of}
 use Rattle.rules.specs.Numbers as number
 use Rattle.rules.specs.Search.{found}

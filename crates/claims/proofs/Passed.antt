@@ -13,7 +13,7 @@ use Rattle.rules.specs.declared.verdict.Reason.TheVariants.{FlagOrLevel, DigitOr
 use Rattle.rules.specs.Verdict.{Verdict}
 use Rattle.rules.specs.declared.outcome.Refusal.TheVariants.{Malformed, BadRecord}
 use Rattle.rules.specs.Outcome.{Outcome}
-use Rattle.std.specs.Prelude.{Ok, Err}
+use Rattle.std.specs.Prelude.{Err}
 use Rattle.rules.specs.Event.{well_formed}
 use Rattle.rules.specs.Decision.{unless, decision}
 use Rattle.rules.specs.Numbers.{reason_number}

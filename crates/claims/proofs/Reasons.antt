@@ -12,7 +12,7 @@ use Rattle.octets.proofs.Tests.{and_assoc, by_eq, by_so}
 use Rattle.octets.proofs.Spans.{length-span, span_at, zeros_more, zeros_then}
 use Rattle.octets.proofs.Sames.{same_agree, same_differ}
 use Rattle.rules.specs.declared.part.Part.{Part}
-use Rattle.std.specs.Prelude.{Option, Some, None, Ok, Err}
+use Rattle.std.specs.Prelude.{Option, Some, None}
 use Rattle.rules.specs.declared.verdict.Reason.TheVariants.{FlagOrLevel, DigitOrPointCode, NotZero, NotAbove}
 use Rattle.rules.specs.Verdict.{fault, no_fault}
 use Rattle.rules.specs.Fields.{decimal, point_code_ok}

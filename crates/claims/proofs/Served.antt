@@ -15,10 +15,9 @@ use Rattle.octets.proofs.Spans.{length-span, span_all}
 use Rattle.rules.specs.declared.part.Part.{Part}
 use Rattle.rules.specs.declared.circuit.Circuit.{Circuit}
 use Rattle.rules.specs.declared.event.Event.{Event}
-use Rattle.std.specs.Prelude.{Option, Some, None, Ok, Err}
+use Rattle.std.specs.Prelude.{Option, Some, None, Err}
 use Rattle.rules.specs.declared.outcome.Act.TheVariants.{Seize}
 use Rattle.rules.specs.declared.outcome.Refusal.TheVariants.{Malformed, NoCircuitForRoutine, NoCircuit}
-use Rattle.rules.specs.declared.outcome.Deed.TheVariants.{Do}
 use Rattle.rules.specs.Outcome.{does}
 use Rattle.rules.specs.Verdict.{Verdict}
 use Rattle.rules.specs.Search.{found}

@@ -1,13 +1,12 @@
 -- The customer says of number 28, which 01 prints as "set-up on its reservation, holder there not strictly lower in the same domain" (02, L6):
 -- "Trainers ask how to provoke 28 and nobody can: a valid table has each reservation strictly above its holder in the same domain, and L4 drops it
 -- with the mark. Prove that no input gives 28, and take it out of the table, the order and the callers."
-use Rattle.std.specs.Prelude.{ℕ, ◌/◌, ◌<◌, ◌≡◌, ◌⊎◌, ◌≢◌, Bool, true, false, cond, ◌||◌, not, List, [], ◌∷◌, ◌++◌, length, eqb, Ok, Err}
+use Rattle.std.specs.Prelude.{ℕ, ◌/◌, ◌<◌, ◌≡◌, ◌⊎◌, ◌≢◌, Bool, true, false, cond, ◌||◌, not, List, [], ◌∷◌, ◌++◌, length, eqb, Err}
 use Rattle.rules.specs.declared.circuit.Circuit.{Circuit}
 use Rattle.rules.specs.declared.event.Event.{Event}
 use Rattle.rules.specs.declared.outcome.Act.TheVariants.{Seize}
 use Rattle.rules.specs.declared.outcome.Refusal.TheVariants.{MarkDiffers}
 use Rattle.rules.specs.Outcome.{Outcome, does}
-use Rattle.rules.specs.declared.outcome.Deed.TheVariants.{Do}
 use Rattle.rules.specs.Circuit.{outranks, same_mark, unreserved}
 use Rattle.rules.specs.Decision.{on_reservation}
 use Rattle.rules.specs.Numbers.{done}
