@@ -4,13 +4,13 @@
 
 ghost use Rattle.std.specs.Prelude.{◌≡◌, ◌+◌, ◌*◌, ◌≤◌, length};
 ghost use Rattle.octets.specs.Span.{span, put};
-ghost use Rattle.rules.specs.Records.{event_size, event_in, mark_in, reference_in, event_at, answer_size, loser, answer_octets, answer_in, answer_number, answer_cause, answer_detail, lost_call, lost_reservation, is_lost, lost_reference};
+ghost use Rattle.rules.specs.Records.{event_size, event_in, mark_in, reference_in, event_at, answer_size, answer_octets, answer_in, answer_number, answer_cause, answer_detail, lost_call, lost_reservation, is_lost, lost_reference};
 
 use rules::answer::Answer;
 use rules::event::Event;
 use rules::level::Level;
 use rules::mark::Mark;
-use rules::part::{Part, REFERENCE_SIZE, Reference};
+use rules::part::{REFERENCE_SIZE, Reference};
 use rules::{outcome, parameter};
 
 // An event has 16 octets.
@@ -38,9 +38,8 @@ fn reference(es: &[u8], o: usize) -> Reference
     requires { o + event_size ≤ length es.now }
     ensures { result ≡ reference_in (span es.now o event_size) }
 {
-    let mut reference: Reference = octets::read(es, o + 7);
-    reference[4] %= 64;
-    reference
+    let [a, b, c, d, last]: Reference = octets::read(es, o + 7);
+    [a, b, c, d, last % 64]
 }
 
 // Reads what event k says, of those that stand one after another.
@@ -60,13 +59,20 @@ pub fn read(es: &[u8], k: usize) -> Event
     }
 }
 
-// Writes a party that was lost, or nobody, from octet `o` on: a flag, then a reference.
-fn write_party(answers: &mut [u8], o: usize, p: Part)
-    requires { o + 6 ≤ length answers.old }
-    ensures { answers.new ≡ put answers.old o (loser p) }
+// Gives the record of an answer. It is made whole before it is written: pieces written one after another cost an event more.
+fn record(a: Answer) -> [u8; ANSWER_SIZE]
+    ensures { result ≡ answer_octets a }
 {
-    answers[o] = p.flag();
-    octets::write(answers, o + 1, &p.reference);
+    let cause = outcome::cause(a.number);
+    let [low, high] = a.detail.to_le_bytes();
+    let p = a.call.reference;
+    let q = a.reservation.reference;
+    let c = a.call.flag();
+    let r = a.reservation.flag();
+    [
+        a.number, cause, low, high, c, p[0], p[1], p[2], p[3], p[4], r, q[0], q[1], q[2], q[3],
+        q[4],
+    ]
 }
 
 // Writes answer k, after those before it.
@@ -74,12 +80,7 @@ pub fn write(answers: &mut [u8], k: usize, a: Answer)
     requires { answer_size * k + answer_size ≤ length answers.old }
     ensures { answers.new ≡ put answers.old (answer_size * k) (answer_octets a) }
 {
-    let o = ANSWER_SIZE * k;
-    answers[o] = a.number;
-    answers[o + 1] = outcome::cause(a.number);
-    octets::write(answers, o + 2, &a.detail.to_le_bytes());
-    write_party(answers, o + 4, a.call);
-    write_party(answers, o + 10, a.reservation);
+    octets::write(answers, ANSWER_SIZE * k, &record(a));
 }
 
 // Gives answer k, of those that stand one after another.
