@@ -103,7 +103,7 @@ impl<'a> Record<'a> {
     pub fn stands_in(self, side: Side, reference: Reference) -> bool
         ensures { result ≡ is_of reference (part_on side (circuit_in self.entry)) }
     {
-        octets::same_five(self.reference(side), reference) && self.present(side)
+        octets::same(self.reference(side), reference) && self.present(side)
     }
 
     // Tells whether the circuit is free, by its two flags.
@@ -250,7 +250,7 @@ impl<'a> Record<'a> {
     pub fn tail_rings(self) -> bool
         ensures { result ≡ same (tail_octets self.entry.table.now self.entry.number) (0 ∷ 0 ∷ state_octets true) }
     {
-        octets::read(self.table, self.place(SPARE)) == RINGS
+        octets::same(octets::read(self.table, self.place(SPARE)), RINGS)
     }
 
     // Tells whether there is a holder, or every octet of the holder's part is zero.
