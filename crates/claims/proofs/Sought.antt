@@ -9,9 +9,8 @@ use Rattle.octets.proofs.Tests.{by_test}
 use Rattle.rules.specs.Numbers.{done, precedence_twice}
 use Rattle.fields.specs.Precedence.{read_precedence}
 use Rattle.optional.specs.declared.part.Parameter.{Parameter}
-use Rattle.optional.specs.declared.search.Search.{Search}
 use Rattle.optional.specs.Part.{end_name, precedence_name, stopped, standing, parameter_at, is_parameter, steps, walk, contents}
-use Rattle.optional.specs.Search.{begun, refused, ended, taken, noted, judged, find}
+use Rattle.optional.specs.Search.{Search, begun, refused, ended, taken, noted, judged, find}
 use Rattle.claims.specs.Printed.{among, stepping, finding}
 
 -- what holds of 0, 61 and 62 holds of the number of a step

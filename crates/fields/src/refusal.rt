@@ -1,4 +1,4 @@
-// A field is read or written, or it is refused by a number.
+// A field is read or written, or refused; C gets each refusal as a number.
 ghost use Rattle.std.specs.Prelude.{◌≡◌};
 ghost use Rattle.fields.specs.Given.{refused_number, number_of};
 
@@ -22,9 +22,9 @@ impl From<Refused> for u8 {
     }
 }
 
-// Gives the number of a field that was read or written, or is refused.
-pub fn number<T: Copy>(given: Result<T, Refused>) -> u8
-    ensures { result ≡ number_of given }
+// Gives the number of a field that was written or is refused.
+pub fn number(written: Result<(), Refused>) -> u8
+    ensures { result ≡ number_of written }
 {
-    given.map_or_else(u8::from, |_| number::DONE)
+    written.map_or_else(u8::from, |()| number::DONE)
 }

@@ -64,14 +64,14 @@ pub fn naustvri_next_parameter(part: &[u8], place: usize) -> optional::part::Par
 pub fn naustvri_find_precedence(part: &[u8]) -> optional::search::Found
     ensures reading { result ≡ find part.now }
 {
-    optional::search::find(part)
+    optional::search::find(part).into()
 }
 
 pub fn naustvri_write_optional(buffer: &mut [u8], list: &[u8]) -> optional::write::Written
     ensures result { result ≡ optional.write buffer.old list.now }
     ensures buffer { buffer.new ≡ optional.write_buffer buffer.old list.now }
 {
-    optional::write::write(buffer, list)
+    optional::write::write(buffer, list).into()
 }
 
 pub fn naustvri_check(table: &[u8]) -> rules::verdict::Check

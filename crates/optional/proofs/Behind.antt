@@ -11,7 +11,7 @@ use borrow.Author.Tests.{eqb-true, eqb-false, not-false}
 use Rattle.octets.proofs.Tests.{by_so, and_left, if_eq, if_ne, if_gt, if_ge}
 use Rattle.fields.specs.Precedence.{read_precedence}
 use Rattle.optional.specs.declared.part.Parameter.{Parameter}
-use Rattle.optional.specs.declared.search.Search.{Search}
+use Rattle.optional.specs.Search.{Search}
 use Rattle.optional.specs.Part.{standing, parameter_at, is_parameter, contents, steps, walk}
 use Rattle.optional.specs.Search.{begun, refused, ended, taken, noted, judged, find}
 use Rattle.optional.specs.Claims.{Behind}

@@ -11,7 +11,7 @@ use Rattle.rules.specs.Numbers.{done}
 use Rattle.fields.specs.declared.precedence.Precedence.{Precedence}
 use Rattle.fields.specs.Precedence.{read_precedence}
 use Rattle.optional.specs.declared.part.Parameter.{Parameter}
-use Rattle.optional.specs.declared.search.Search.{Search}
+use Rattle.optional.specs.Search.{Search}
 use Rattle.optional.specs.Part.{end_name, precedence_name, stopped, contents}
 use Rattle.optional.specs.Search.{begun, taken, noted, judged, find}
 use Rattle.optional.specs.List.{Item, items}

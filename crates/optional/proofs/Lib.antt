@@ -1,4 +1,5 @@
 pub mod Walk
+pub mod Searching
 pub mod Entries
 pub mod Sound
 pub mod Surveying

@@ -1,6 +1,6 @@
 -- Laws of the walk through a part: where its steps lie, that each goes on, and what a turn of the search does.
-use Prim.Native.Nat.{ℕ, zero, suc, pred, ◌+◌, ◌-◌, ◌≤◌, ◌<◌}
-use mathlib.Core.Path.{◌≡◌, refl, sym, ap, subst, ◌∙◌}
+use Prim.Native.Nat.{ℕ, zero, suc, pred, ◌+◌, ◌≤◌, ◌<◌}
+use mathlib.Core.Path.{◌≡◌, refl, sym, ap, ◌∙◌}
 use mathlib.Core.Bool.{Bool, true, false, cond, ◌&&◌, not, true≢false}
 use mathlib.Core.List.{List, [], ◌∷◌}
 use native.Mathlib.Numerals.{sub-one}
@@ -10,7 +10,7 @@ use lib.Dec.{eqb, leb, ltb}
 use borrow.Author.Tests.{leb-true, leb-false, ltb-false, eqb-true, eqb-false}
 use Rattle.octets.proofs.Tests.{by_test, by_so}
 use Rattle.optional.specs.declared.part.Parameter.{Parameter}
-use Rattle.optional.specs.declared.search.Search.{Search}
+use Rattle.optional.specs.Search.{Search}
 use Rattle.optional.specs.Part.{stopped, standing, parameter_at, is_parameter, steps, walk}
 use Rattle.optional.specs.Search.{Within, begun, refused, ended, noted, judged, find}
 
@@ -98,25 +98,7 @@ module _ (s : List ℕ) where
   pub left : (m at : ℕ) (h : Search) → Stands m at h → h.going ≡ true → 0 < m
   left m at h st g = let e = st.enough g in omega arith
 
-  -- a step never goes back
-  pub forward : (at : ℕ) → at ≤ (parameter_at s at).next
-  forward at = cases (λ p. at ≤ p.next) at (λ _. omega arith) (λ _ _. omega arith) (omega arith) (λ _ _ _. omega arith)
-
-  -- a turn comes nearer to the end of the octets, or ends the search
-  falls : (m at : ℕ) (h : Search) → Stands m at h → h.going ≡ true
-      → length s - (parameter_at s at).next + cond (noted s h (parameter_at s at)).going 1 0 < length s - at + cond h.going 1 0
-  falls m at h st g =
-      let p = parameter_at s at in
-      let h' = noted s h p in
-      let e = st.enough g in
-      let f = forward at in
-      let one : ◌≡◌ {A = ℕ} (cond h.going 1 0) 1 = ap (λ (b : Bool). cond {A = ℕ} b 1 0) g in
-      let most : cond h'.going 1 0 ≤ 1 = by_test (λ (n : ℕ). n ≤ 1) h'.going 1 0 (λ _. omega arith) (λ _. omega arith) in
-      by_so (is_parameter p)
-      (λ t. let o = onward at t in omega arith)
-      (λ n. let none : ◌≡◌ {A = ℕ} (cond h'.going 1 0) 0 = ap (λ (b : Bool). cond {A = ℕ} b 1 0) (closes h p n) in omega arith)
-
-  goes_on : (m at : ℕ) (h : Search) → Stands m at h → h.going ≡ true → Stands (pred m) (parameter_at s at).next (noted s h (parameter_at s at))
+  pub goes_on : (m at : ℕ) (h : Search) → Stands m at h → h.going ≡ true → Stands (pred m) (parameter_at s at).next (noted s h (parameter_at s at))
   goes_on m at h st g =
       let p = parameter_at s at in
       let l = left m at h st g in
@@ -127,18 +109,6 @@ module _ (s : List ℕ) where
         enough = λ g'.
             by_so (is_parameter p) (λ t. let o = onward at t in (o.1, omega arith)) (λ f. absurd (true≢false (sym g' ∙ closes h p f)));
       }
-
-  -- what a turn leaves, by where the step went and what was noted of it
-  pub record Turned (m at at' : ℕ) (h h' : Search) : Type 0 where
-    pub stands : Stands (pred m) at' h'
-    pub falls : length s - at' + cond h'.going 1 0 < length s - at + cond h.going 1 0
-
-  pub turned : (m at at' : ℕ) (h h' : Search) (p : Parameter) → Stands m at h → h.going ≡ true
-      → p ≡ parameter_at s at → at' ≡ p.next → h' ≡ noted s h p → Turned m at at' h h'
-  turned m at at' h h' p st g e f k =
-      let here : Turned m at p.next h (noted s h p) =
-      subst (λ (q : Parameter). Turned m at q.next h (noted s h q)) (sym e) (record { stands = goes_on m at h st g; falls = falls m at h st g }) in
-      subst (λ (n : ℕ). Turned m at n h h') (sym f) (subst (Turned m at p.next h) (sym k) here)
 
   pub ends : (m at : ℕ) (h : Search) → Stands m at h → h.going ≡ false → h.result ≡ find s
   unfolding find

@@ -1,6 +1,6 @@
 -- This is 02, L5: a parameter list, and how it is lent: as octets, for each parameter its name, how many octets of contents it has in two octets, the
 -- low one first, then the contents. It can say what the writer has to refuse, which an optional part cannot: a name 0, and 256 octets.
-use Rattle.std.specs.Prelude.{ℕ, zero, suc, ◌+◌, Bool, true, false, cond, List, [], ◌∷◌, length, get_or, take, drop, eqb, ltb}
+use Rattle.std.specs.Prelude.{ℕ, zero, suc, ◌+◌, ◌≡◌, Bool, cond, List, [], ◌∷◌, Option, Some, None, length, get_or, take, drop, eqb, leb, ltb}
 use Rattle.octets.specs.Number.{value}
 use Rattle.optional.specs.declared.list.Entry.{Entry}
 
@@ -37,11 +37,26 @@ whole_from (suc n) l at = cond (ltb at (length l)) (whole_from n l (behind l at)
 unfoldable pub whole : List ℕ → Bool
 whole l = whole_from (length l) l 0
 
--- a parameter that is cut short, in a list of n octets: it ends the list
-abbrev pub cut : ℕ → Entry
-cut n = record { whole = false; name = 0; start = n; next = n }
+-- ---- the list as it is gone through
+-- a parameter as it comes, and nothing for one that is cut short
+abbrev pub item_of : Entry → Item
+item_of e = record { name = e.name; contents = e.contents.now }
 
--- where the parameter at a place stands
-unfoldable pub entry_at : List ℕ → ℕ → Entry
-entry_at l at =
-    cond (ltb (length l) (behind l at)) (cut (length l)) (record { whole = true; name = get_or l at 0; start = at + 3; next = behind l at })
+abbrev pub item : Option Entry → Option Item
+item None = None
+item (Some e) = Some (item_of e)
+
+-- e is the first parameter of the list, and r the rest of it
+pub record First (l : List ℕ) (e : Entry) (r : List ℕ) : Type 0 where
+  pub long : length l ≡ behind l 0 + length r
+  pub is : item (Some e) ≡ Some (item_at l 0)
+  pub rest : r ≡ drop (behind l 0) l
+
+-- the parameters as they come, n at most; one that is cut short ends them
+abbrev pub entries_from : ℕ → List ℕ → List (Option Item)
+entries_from zero l = []
+entries_from (suc n) l =
+    cond (ltb 0 (length l)) (cond (leb (behind l 0) (length l)) (Some (item_at l 0) ∷ entries_from n (drop (behind l 0) l)) (None ∷ [])) []
+
+unfoldable pub entries : List ℕ → List (Option Item)
+entries l = entries_from (length l) l

@@ -1,7 +1,11 @@
 -- This is 02, L5: the optional part of a message, and the walk of a reader through it.
-use Rattle.std.specs.Prelude.{ℕ, zero, suc, ◌+◌, Bool, cond, ◌&&◌, not, List, [], ◌∷◌, length, get_or, take, drop, eqb, leb, ltb}
-use Rattle.rules.specs.Numbers.{done, parameter_cut_short, no_end}
+use Rattle.std.specs.Prelude.{ℕ, zero, suc, ◌+◌, ◌≡◌, Bool, cond, ◌&&◌, not, List, [], ◌∷◌, Option, Some, None, Result, Ok, Err, length, get_or, take, drop, eqb, leb, ltb}
+use Rattle.rules.specs.declared.outcome.Refusal.TheVariants as refusal
+use Rattle.rules.specs.Numbers.{done, parameter_cut_short, no_end, precedence_twice, refusal_number}
+use Rattle.optional.specs.declared.part.Fault.{Fault}
+use Rattle.optional.specs.declared.part.Fault.TheVariants.{CutShort, NoEnd, PrecedenceTwice, Malformed}
 use Rattle.optional.specs.declared.part.Parameter.{Parameter}
+use Rattle.optional.specs.declared.part.Standing.{Standing}
 use Rattle.optional.specs.declared.reader.Reader.{Reader}
 
 abbrev pub end_name : ℕ  -- "name 0 ends the part"
@@ -17,6 +21,25 @@ stopped k at = record { number = k; name = end_name; length = 0; start = 0; next
 -- a parameter at a place, with a name and so many octets of contents: "a name octet, a length octet and contents"
 abbrev pub standing : ℕ → ℕ → ℕ → Parameter
 standing name count at = record { number = done; name = name; length = count; start = at + 2; next = at + 2 + count }
+
+-- "61 octets run out inside a parameter, 62 they run out before a name", and at one parameter 63 and 22
+abbrev pub fault_number : Fault → ℕ
+fault_number CutShort = parameter_cut_short
+fault_number NoEnd = no_end
+fault_number PrecedenceTwice = precedence_twice
+fault_number Malformed = refusal_number refusal.Malformed
+
+-- what C gets of a step from a place
+abbrev pub given : ℕ → Result (Option Standing) Fault → Parameter
+given at (Ok (Some p)) = record { number = done; name = p.name; length = p.length; start = p.start; next = p.next }
+given at (Ok None) = stopped done at
+given at (Err fault) = stopped (fault_number fault) at
+
+-- a parameter that a step gives has not the name of the end
+abbrev pub Named : Result (Option Standing) Fault → Type 0
+Named (Ok (Some p)) = p.name ≡ end_name → ⊥
+Named (Ok None) = Unit {0}
+Named (Err fault) = Unit {0}
 
 -- what stands at a place of the part: "61 octets run out inside a parameter, 62 they run out before a name"
 unfoldable pub parameter_at : List ℕ → ℕ → Parameter

@@ -1,9 +1,11 @@
 -- This is 02, L5: "A writer puts a parameter list back".
-use Rattle.std.specs.Prelude.{ℕ, ◌+◌, Bool, true, cond, ◌&&◌, ◌||◌, not, List, [], ◌∷◌, ◌++◌, length, eqb, leb}
+use Rattle.std.specs.Prelude.{ℕ, ◌+◌, Bool, true, cond, ◌&&◌, ◌||◌, not, List, [], ◌∷◌, ◌++◌, Result, Ok, Err, length, eqb, leb}
 use Rattle.octets.specs.Span.{put}
-use Rattle.rules.specs.declared.outcome.Refusal.TheVariants.{Malformed}
+use Rattle.rules.specs.declared.outcome.Refusal.TheVariants as refusal
 use Rattle.rules.specs.Numbers.{done, wrong_length, precedence_twice, refusal_number}
 use Rattle.fields.specs.Precedence.{read_precedence, spareless}
+use Rattle.optional.specs.declared.write.Refused.{Refused}
+use Rattle.optional.specs.declared.write.Refused.TheVariants.{WrongLength, Malformed, PrecedenceTwice}
 use Rattle.optional.specs.declared.write.Written.{Written}
 use Rattle.optional.specs.Part.{end_name, precedence_name}
 use Rattle.optional.specs.List.{Item, items, whole}
@@ -54,7 +56,18 @@ given b l x refuse =
     cond (whole l)
     (cond (leb (room (items l)) (length b))
     (cond (all_sound (items l))
-    (cond (leb (precedences (items l)) 1) x (refuse precedence_twice)) (refuse (refusal_number Malformed))) (refuse wrong_length)) (refuse wrong_length)
+    (cond (leb (precedences (items l)) 1) x (refuse precedence_twice)) (refuse (refusal_number refusal.Malformed))) (refuse wrong_length)) (refuse wrong_length)
+
+-- the number of a refusal
+abbrev pub refused_number : Refused → ℕ
+refused_number WrongLength = wrong_length
+refused_number Malformed = refusal_number refusal.Malformed
+refused_number PrecedenceTwice = precedence_twice
+
+-- what C gets of what the writer did
+abbrev pub written : Result ℕ Refused → Written
+written (Ok end) = record { number = done; end = end }
+written (Err why) = record { number = refused_number why; end = 0 }
 
 -- number 0 and how many octets were written, or a refusal and none
 unfoldable pub write : List ℕ → List ℕ → Written

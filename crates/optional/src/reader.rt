@@ -1,9 +1,9 @@
 // A reader goes through an optional part parameter by parameter and keeps its place.
 ghost use Rattle.std.specs.Prelude.{◌≡◌};
-ghost use Rattle.optional.specs.Part.{parameter_at, moved};
+ghost use Rattle.optional.specs.Part.{given, Named, parameter_at, moved};
 
 use crate::part;
-use crate::part::Parameter;
+use crate::part::{Fault, Standing};
 
 // The optional part, and a place in it.
 #[derive(Drop)]
@@ -20,13 +20,16 @@ impl<'a> Reader<'a> {
         Reader { part, place: 0 }
     }
 
-    // Gives what stands at the reader's place, and moves it on to the next name.
-    pub fn step<'s>(&'s mut self) -> Parameter
-        ensures { (result ≡ parameter_at self.old.part.now self.old.place)
-            × (self.new ≡ moved self.old result.next) }
+    // Gives what stands at the reader's place, and moves it on to the next name. At the end and at a fault the reader stays, so that it is no iterator.
+    pub fn step<'s>(&'s mut self) -> Result<Option<Standing>, Fault>
+        ensures step { given self.old.place result ≡ parameter_at self.old.part.now self.old.place }
+        ensures named { Named result }
+        ensures place { self.new ≡ moved self.old (parameter_at self.old.part.now self.old.place).next }
     {
-        let p = part::parameter_at(self.part, self.place);
-        self.place = p.next;
-        p
+        let step = part::step(self.part, self.place)?;
+        if let Some(standing) = step {
+            self.place = standing.next;
+        }
+        Ok(step)
     }
 }

@@ -1,19 +1,32 @@
 // Precedence is searched for in an optional part: the search goes to the end of the part or to its first fault.
-ghost use Rattle.std.specs.Prelude.{◌≡◌, ◌+◌, ◌<◌, ◌≤◌, ◌^◌, length, take, drop};
-ghost use Rattle.fields.specs.Precedence.{read_precedence};
-ghost use Rattle.optional.specs.Search.{Within, no_value, begun, refused, ended, taken, noted, find};
+ghost use Rattle.std.specs.Prelude.{◌≡◌};
+ghost use Rattle.optional.specs.Search.{Lies, had, after, noted, standing_at, found, find};
 
 use crate::part;
-use crate::part::Parameter;
+use crate::part::{Fault, Standing};
 use crate::reader::Reader;
 use fields::precedence;
 use fields::precedence::Precedence;
 use rules::number;
 
-// Precedence in a part. The number is 0, 61, 62, 63 or 22. Where there is precedence, `found` is 1 and `start` is the place of its six octets. `end` is
+// Precedence that stands in a part: where its six octets start, and what they say.
+#[derive(Clone, Copy)]
+pub struct PrecedenceAt {
+    pub start: usize,
+    pub value: Precedence,
+}
+
+// What was found in a part that goes to its end: precedence, if it has any, and how many octets it has, its end octet with them.
+#[derive(Clone, Copy)]
+pub struct Searched {
+    pub precedence: Option<PrecedenceAt>,
+    pub end: usize,
+}
+
+// What C gets of a search. The number is 0, 61, 62, 63 or 22. Where there is precedence, `found` is 1 and `start` is the place of its six octets. `end` is
 // how many octets the part has, its end octet with them. At a refusal all but the number is zero.
 #[repr(C)]
-#[derive(Clone, Copy)]
+#[derive(Clone, Copy, Default)]
 pub struct Found {
     pub number: u8,
     pub found: u8,
@@ -22,128 +35,69 @@ pub struct Found {
     pub value: Precedence,
 }
 
-// What was found so far, and whether the search goes on.
-#[derive(Clone, Copy)]
-pub struct Search {
-    pub going: bool,
-    pub result: Found,
-}
+impl From<Result<Searched, Fault>> for Found {
+    ghost from_gives = { λ search given. given ≡ found search };
 
-// Gives the values where there is no precedence.
-fn no_value() -> Precedence
-    ensures { result ≡ no_value }
-{
-    let digits = [0u8; 4];
-    Precedence {
-        level: 0,
-        lfb: 0,
-        digits,
-        service: 0,
-    }
-}
-
-// Gives the search before the first parameter.
-fn begun() -> Search
-    ensures { result ≡ begun }
-{
-    let value = no_value();
-    let result = Found {
-        number: number::DONE,
-        found: 0,
-        start: 0,
-        end: 0,
-        value,
-    };
-    Search {
-        going: true,
-        result,
-    }
-}
-
-// Gives the search that a fault has ended: its number and zeros.
-fn refused(number: u8) -> Search
-    ensures { result ≡ refused number }
-{
-    let value = no_value();
-    let result = Found {
-        number,
-        found: 0,
-        start: 0,
-        end: 0,
-        value,
-    };
-    Search {
-        going: false,
-        result,
-    }
-}
-
-// Gives the search that has come to the end of the part, which stands at a place.
-fn ended(had: Search, place: usize) -> Search
-    requires { place + 1 < 2 ^ 64 }
-    ensures { result ≡ ended had place }
-{
-    let mut result = had.result;
-    result.end = place + 1;
-    Search {
-        going: false,
-        result,
-    }
-}
-
-// Gives the search that has met precedence, which was not there before.
-fn taken(part: &[u8], start: usize, count: usize) -> Search
-    requires { start + count ≤ length part.now }
-    ensures { result ≡ taken start (read_precedence (take count (drop start part.now))) }
-{
-    let end = start + count;
-    let Ok(value) = precedence::read(&part[start..end]) else {
-        return refused(number::MALFORMED);
-    };
-    let result = Found {
-        number: number::DONE,
-        found: 1,
-        start,
-        end: 0,
-        value,
-    };
-    Search {
-        going: true,
-        result,
+    fn from(search: Result<Searched, Fault>) -> Found {
+        match search {
+            Ok(searched) => {
+                let found = Found {
+                    number: number::DONE,
+                    end: searched.end,
+                    ..Found::default()
+                };
+                match searched.precedence {
+                    Some(precedence) => Found {
+                        found: 1,
+                        start: precedence.start,
+                        value: precedence.value,
+                        ..found
+                    },
+                    None => found,
+                }
+            }
+            Err(fault) => Found {
+                number: u8::from(fault),
+                ..Found::default()
+            },
+        }
     }
 }
 
 // Gives what one parameter makes of what was found before it.
 #[tactic(auto, unfolding(crate::specs::Search::noted))]
-fn noted(part: &[u8], had: Search, p: Parameter) -> Search
-    requires { Within part.now p }
-    ensures { result ≡ noted part.now had p }
+fn noted(
+    part: &[u8],
+    before: Option<PrecedenceAt>,
+    parameter: Standing,
+) -> Result<Option<PrecedenceAt>, Fault>
+    requires { Lies part.now parameter }
+    ensures { after result ≡ noted part.now (had before) (standing_at parameter) }
 {
-    if p.number != number::DONE {
-        return refused(p.number);
+    if parameter.name != part::PRECEDENCE {
+        return Ok(before);
     }
-    if p.name == part::END {
-        return ended(had, p.next);
+    if before.is_some() {
+        return Err(Fault::PrecedenceTwice);
     }
-    if p.name != part::PRECEDENCE {
-        return had;
-    }
-    let result = had.result;
-    if result.found != 0 {
-        return refused(number::PRECEDENCE_TWICE);
-    }
-    taken(part, p.start, part::wide(p.length))
+    let value = precedence::read(&part[parameter.start..parameter.next])?;
+    Ok(Some(PrecedenceAt {
+        start: parameter.start,
+        value,
+    }))
 }
 
 // Finds precedence in a part, which a reader goes through to its end or to its first fault.
-pub fn find(part: &[u8]) -> Found
-    ensures reading { result ≡ find part.now }
+pub fn find(part: &[u8]) -> Result<Searched, Fault>
+    ensures reading { found result ≡ find part.now }
 {
     let mut reader = Reader::new(part);
-    let mut had = begun();
-    while had.going {
-        let p = reader.step();
-        had = noted(part, had, p);
+    let mut precedence = None;
+    while let Some(parameter) = reader.step()? {
+        precedence = noted(part, precedence, parameter)?;
     }
-    had.result
+    Ok(Searched {
+        precedence,
+        end: reader.place + 1,
+    })
 }

@@ -13,14 +13,14 @@ pub fn values(page: Page, value: Precedence) {
 
 // Reads a parameter of the row's octets: number; its values.
 pub fn precedence(page: Page, row: &Row) {
-    let r = fields::precedence::read(row.given());
+    let r = fields::precedence::Reading::from(fields::precedence::read(row.given()));
     page.number(r.number);
     values(page, r.value);
 }
 
 // Reads a reference of the row's octets: number, identity, point code.
 pub fn reference(page: Page, row: &Row) {
-    let r = fields::reference::read(row.given());
+    let r = fields::reference::Reading::from(fields::reference::read(row.given()));
     page.number(r.number);
     page.number(r.value.identity);
     page.number(r.value.point);
@@ -35,7 +35,7 @@ pub fn write_precedence(row: &Row, buffer: &mut [u8]) -> u8 {
         digits: row.part(3),
         service: u32::from_le_bytes(row.part(7)),
     };
-    fields::precedence::write(buffer, value)
+    fields::refusal::number(fields::precedence::write(buffer, value))
 }
 
 // Writes identity and point code of a row, which stand after the size of the buffer.
@@ -44,7 +44,7 @@ pub fn write_reference(row: &Row, buffer: &mut [u8]) -> u8 {
         identity: u32::from_le_bytes(row.part(1)),
         point: u16::from_le_bytes(row.part(5)),
     };
-    fields::reference::write(buffer, value)
+    fields::refusal::number(fields::reference::write(buffer, value))
 }
 
 // Writes the values of a row into a buffer of as many octets as its first one says, as a field.

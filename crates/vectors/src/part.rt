@@ -8,7 +8,7 @@ const LONG: usize = 600;
 
 // Finds precedence in a part: number, whether it was found, where it starts, where the part ends; its values.
 pub fn found(page: Page, part: &[u8]) {
-    let r = optional::search::find(part);
+    let r = optional::search::Found::from(optional::search::find(part));
     page.number(r.number);
     page.number(r.found);
     page.number(r.start);
@@ -29,7 +29,7 @@ pub fn step(page: Page, row: &Row) {
 
 // Writes a list into a buffer, and gives its number and end.
 fn put(page: Page, buffer: &mut [u8], list: &[u8]) {
-    let r = optional::write::write(buffer, list);
+    let r = optional::write::Written::from(optional::write::write(buffer, list));
     page.number(r.number);
     page.number(r.end);
 }

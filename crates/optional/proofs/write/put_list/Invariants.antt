@@ -1,10 +1,10 @@
--- The parameters before the place stand in the buffer.
-use Rattle.std.proofs.Common.{ℕ, ◌-◌, List, length}
+-- What was written so far and what the parameters that still come are written as are the whole part.
+use Rattle.optional.specs.List.{entries}
 use Rattle.optional.proofs.Putting.{Stands}
 use Rattle.optional.proofs.write.put_list.Given as goal
 
-abbrev pub invariant-loop-place : goal.invariant-loop-place
-invariant-loop-place l = (m : ℕ) × ((v : List ℕ) × Stands l.fn.buffer l.list m l.buffer l.place l.to v)
-
-abbrev pub decreases-loop-place : goal.decreases-loop-place
-decreases-loop-place l = length l.list - l.place
+abbrev pub invariant-loop-entry : goal.invariant-loop-entry
+invariant-loop-entry l =
+    (goal.iterator-loop-entry).can_next l.entry-iterator
+    × (goal.iterator-loop-entry).is_finite l.entry-iterator
+    × Stands l.fn.buffer l.list (entries l.entry-iterator.0.now) l.buffer l.to
