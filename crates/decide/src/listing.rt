@@ -74,6 +74,7 @@ pub fn decided(
         text.new result }
     ensures end { result ≤ room }
 {
-    route::list(table, events, places);
+    // Where a length is wrong, the places stay as they are, and so do the lines of what stands there.
+    let _ = route::list(table, events, places);
     listing(before, places, text)
 }

@@ -6,7 +6,7 @@ ghost use Rattle.tally.specs.Entry.{most_lists};
 use crate::lists::TooMany;
 use crate::{files, print};
 use streams::{End, Reported};
-use tally::totals::{FIGURES, MOST_LISTS};
+use tally::totals::{FIGURES, MOST_LISTS, Totals};
 
 // Each pair adds a list, and totals take 65,536 lists, so that no more pairs are taken.
 const MOST_PAIRS: usize = MOST_LISTS as usize;
@@ -49,7 +49,7 @@ impl Day {
     fn next(
         &mut self,
         rt: &HostRuntime,
-        totals: &mut [u64; FIGURES],
+        totals: &mut Totals,
         lefts: &mut [u8],
     ) -> Result<(), Reported>
         requires { self.old.pairs ≤ most_lists }
@@ -69,7 +69,7 @@ impl Day {
 fn all(
     rt: &HostRuntime,
     pairs: usize,
-    totals: &mut [u64; FIGURES],
+    totals: &mut Totals,
     lefts: &mut [u8],
 ) -> Result<Day, Reported> {
     let mut day = Day {

@@ -7,7 +7,7 @@ use crate::lists::{Sheet, TooMany};
 use crate::pair;
 use crate::pair::Pair;
 use streams::{End, Reported, TABLE_ROOM};
-use tally::totals::FIGURES;
+use tally::totals::Totals;
 
 // Applies the events in the file of this name to the table; where it cannot be opened or read, standard error names it.
 fn opened(rt: &HostRuntime, name: &[u8], sheet: &mut Sheet) -> Result<Pair, Reported> {
@@ -27,7 +27,7 @@ fn events(rt: &HostRuntime, i: usize, sheet: &mut Sheet) -> Result<Pair, Reporte
 }
 
 // Takes the table in the file that argument i names, and the events in the file that the next argument names.
-pub fn taken(rt: &HostRuntime, i: usize, totals: &mut [u64; FIGURES]) -> Result<Pair, Reported>
+pub fn taken(rt: &HostRuntime, i: usize, totals: &mut Totals) -> Result<Pair, Reported>
     requires { i ≤ 2 * most_lists + 1 }
 {
     let mut space = [0u8; TABLE_ROOM];

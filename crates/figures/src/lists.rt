@@ -4,14 +4,10 @@ ghost use Rattle.rules.specs.Records.{event_size, most_events};
 ghost use Rattle.tally.specs.Entry.{has_room};
 ghost use Rattle.figures.specs.Output.{Sized, listed_table, listed_totals};
 
-use rules::number::DONE;
 use std::io::Read;
 use streams::End;
-use tally::totals::{FIGURES, MOST_LISTS};
-
-// This says that a list is one too many.
-#[derive(Clone, Copy)]
-struct Refused;
+use tally::Refused;
+use tally::totals::{MOST_LISTS, Totals};
 
 // This says that a list was one too many, and how its reading ended.
 #[derive(Clone, Copy)]
@@ -21,7 +17,7 @@ pub struct TooMany(pub End);
 #[derive(Drop)]
 pub struct Sheet<'a> {
     pub table: &'a mut [u8],
-    pub totals: &'a mut [u64; FIGURES],
+    pub totals: &'a mut Totals,
     ghost sized: { Sized (length table.now) },
 }
 
@@ -37,11 +33,7 @@ impl Sheet<'_> {
         let mut places = streams::list_room();
         let places = &mut places[..events.len()];
         let totals = &mut *self.totals;
-        if tally::list(self.table, events, places, totals) == DONE {
-            Ok(())
-        } else {
-            Err(Refused)
-        }
+        tally::list(self.table, events, places, totals)
     }
 
     // Takes one list from the file, and says how it ended. It is added where it has an event, or is the first.

@@ -6,7 +6,7 @@ ghost use Rattle.figures.specs.Output.{Sized};
 use crate::lists::{Sheet, TooMany};
 use std::io::Read;
 use streams::End;
-use tally::totals::{FIGURES, LISTS};
+use tally::totals::{LISTS, Totals};
 
 // This says what one table and its events came to: its holders before them and after them, if a list of them was added, and how they ended.
 #[derive(Clone, Copy)]

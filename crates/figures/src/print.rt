@@ -1,15 +1,10 @@
 // This module writes the figures to standard output.
 use lines::figures::MOST_LETTERS;
 use streams::{LINE, Reported};
-use tally::totals::FIGURES;
+use tally::totals::Totals;
 
 // Writes the text of the totals.
-pub fn totals(
-    rt: &HostRuntime,
-    start: u64,
-    end: u64,
-    totals: &[u64; FIGURES],
-) -> Result<(), Reported> {
+pub fn totals(rt: &HostRuntime, start: u64, end: u64, totals: &Totals) -> Result<(), Reported> {
     streams::print(
         rt,
         &mut [0; MOST_LETTERS],
