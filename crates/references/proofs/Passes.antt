@@ -1,7 +1,7 @@
 -- The passes together: each finds the lowest repeated part of its own range, and the ranges follow each other until every stem has had its pass.
-use Prim.Native.Nat.{ℕ, ◌<◌, ◌≤◌}
+use Prim.Native.Nat.{ℕ, min, ◌<◌, ◌≤◌}
 use mathlib.Core.Path.{◌≡◌, sym, ap, subst, ◌∙◌}
-use mathlib.Core.Bool.{Bool, true, false, cond, ◌&&◌}
+use mathlib.Core.Bool.{Bool, true, false, ◌&&◌}
 use mathlib.Core.List.{List}
 use native.Mathlib.Omega.{arith}
 use lib.Dec.{ltb}
@@ -60,16 +60,15 @@ module _ (x : ℕ → Circuit) (m : ℕ) where
         let ranged = and_both _ _ (le-leb from at (ltb-false at from b)) (lt-ltb at to l) in
         ap (λ (b : Bool). b && repeated x j) (sym ranged) ∙ p.1 j g)
 
-    pub sift_more : {found c : ℕ} → found ≡ n → c ≡ cond (ltb found k) found k → Sifted x m to c
+    pub sift_more : {found c : ℕ} → found ≡ n → c ≡ min k found → Sifted x m to c
     sift_more q e =
-        subst (Sifted x m to) (sym (e ∙ ap (λ (a : ℕ). cond (ltb a k) a k) q))
-        (by_so (ltb n k)
+        by_so (ltb n k)
         (λ b.
         let l = ltb-true n k b in
-        subst (λ (b : Bool). Sifted x m to (cond b n k)) (sym b) (record { most = p.0; before = λ j h. below_both j (omega arith) h; there = λ l. and_right (in_range from to (part_numbered x n).reference) (repeated x n) (p.2 l) }))
+        subst (Sifted x m to) (omega arith) (record { most = p.0; before = λ j h. below_both j (omega arith) h; there = λ l. and_right (in_range from to (part_numbered x n).reference) (repeated x n) (p.2 l) }))
         (λ b.
         let l = ltb-false n k b in
-        subst (λ (b : Bool). Sifted x m to (cond b n k)) (sym b) (record { most = s.most; before = λ j h. below_both j h (omega arith); there = s.there })))
+        subst (Sifted x m to) (omega arith) (record { most = s.most; before = λ j h. below_both j h (omega arith); there = s.there }))
 
   -- after the last pass
   pub sifted_all : (from k : ℕ) → stems ≤ from → Sifted x m from k → (j : ℕ) → j < k → repeated x j ≡ false

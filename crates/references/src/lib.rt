@@ -3,7 +3,7 @@
 
 #![tactic(auto)]
 
-ghost use Rattle.std.specs.Prelude.{◌≡◌, true, cond, ◌&&◌, ◌||◌, ◌+◌, ◌*◌, ◌<◌, ◌≤◌, length, ltb};
+ghost use Rattle.std.specs.Prelude.{◌≡◌, true, ◌&&◌, ◌||◌, ◌+◌, ◌*◌, ◌<◌, ◌≤◌, length};
 ghost use Rattle.rules.specs.Circuit.{is_of};
 ghost use Rattle.rules.specs.Search.{first_to};
 ghost use Rattle.rules.specs.Valid.{side_number, repeated};
@@ -13,6 +13,7 @@ ghost use Rattle.references.specs.Filter.{stems, in_range, bits_in, already, sta
 ghost use Rattle.references.specs.Filter as filter;
 
 use rules::part::{Reference, Side};
+use std::ops::Range;
 use table::Record;
 
 // The filter has so many words of 64 bits: 256 octets of stack.
@@ -23,12 +24,6 @@ const STEMS: u64 = 4294967296;
 
 // There are as many passes as let some so many references stand in the filter at a time.
 const AT_ONCE: usize = 172;
-
-fn wide(x: u8) -> u64
-    ensures { (result ≡ x) × (result < 256) }
-{
-    x as u64
-}
 
 // Gives the stem of a reference, which says in which pass it is noted. It leaves the last octet out, so that whoever is passed over is so
 // with one multiplication.
@@ -45,7 +40,7 @@ fn stem(r: Reference) -> u64
 fn spread(r: Reference) -> u64
     ensures { result ≡ filter.spread r }
 {
-    stem(r) * 695872825 + 739982445 * wide(r[4])
+    stem(r) * 695872825 + 739982445 * u64::from(r[4])
 }
 
 // Gives the three bits that stand for a reference in its word, by its spread number.
@@ -57,7 +52,6 @@ fn bits(v: u64) -> u64
 
 // Sets the bits of a reference, and says whether all of them were set before.
 fn set_bits(w: &mut [u64; WORDS], r: Reference) -> bool
-    requires { length w.old ≡ 32 }
     ensures lit { result ≡ already w.old r }
     ensures words { Grown w.old w.new r true }
 {
@@ -69,20 +63,12 @@ fn set_bits(w: &mut [u64; WORDS], r: Reference) -> bool
     new == old
 }
 
-// Notes a reference whose stem is from `from` on and below `to`, and says whether it may stand in an earlier part; any other is passed over.
-fn may_repeat(w: &mut [u64; WORDS], r: Reference, from: u64, to: u64) -> bool
-    requires { length w.old ≡ 32 }
-    ensures lit { result ≡ in_range from to r && already w.old r }
-    ensures words { Grown w.old w.new r (in_range from to r) }
+// Notes a reference whose stem is one of a pass, and says whether it may stand in an earlier part; any other is passed over.
+fn may_repeat(w: &mut [u64; WORDS], r: Reference, stems: &Range<u64>) -> bool
+    ensures lit { result ≡ in_range stems.now.start stems.now.end r && already w.old r }
+    ensures words { Grown w.old w.new r (in_range stems.now.start stems.now.end r) }
 {
-    let stem = stem(r);
-    if stem < from {
-        return false;
-    }
-    if to <= stem {
-        return false;
-    }
-    set_bits(w, r)
+    stems.contains(&stem(r)) && set_bits(w, r)
 }
 
 // Tells whether the call with this reference stands on a circuit.
@@ -120,16 +106,16 @@ fn stands_before(circuit: Record, side: Side, r: Reference) -> bool
 }
 
 // Notes the reference of a circuit on a side, if that part is present and in range, and tells whether it stands in an earlier part.
-fn note(circuit: Record, w: &mut [u64; WORDS], side: Side, from: u64, to: u64) -> bool
-    requires { Seen (circuit_at circuit.table.now) from to w.old (2 * circuit.number + side_number side) }
-    ensures twice { result ≡ repeated_in from to (circuit_at circuit.entry.table.now) (2 * circuit.entry.number + side_number side) }
-    ensures words { Seen (circuit_at circuit.entry.table.now) from to w.new (2 * circuit.entry.number + side_number side + 1) }
+fn note(circuit: Record, w: &mut [u64; WORDS], side: Side, stems: &Range<u64>) -> bool
+    requires { Seen (circuit_at circuit.table.now) stems.now.start stems.now.end w.old (2 * circuit.number + side_number side) }
+    ensures twice { result ≡ repeated_in stems.now.start stems.now.end (circuit_at circuit.entry.table.now) (2 * circuit.entry.number + side_number side) }
+    ensures words { Seen (circuit_at circuit.entry.table.now) stems.now.start stems.now.end w.new (2 * circuit.entry.number + side_number side + 1) }
 {
     if !circuit.present(side) {
         return false;
     }
     let r = circuit.reference(side);
-    if !may_repeat(w, r, from, to) {
+    if !may_repeat(w, r, stems) {
         return false;
     }
     stands_before(circuit, side, r)
@@ -137,17 +123,17 @@ fn note(circuit: Record, w: &mut [u64; WORDS], side: Side, from: u64, to: u64) -
 
 // Goes through all parts of n circuits and gives the first that is in range and whose reference stands in an earlier part; where there is none, their
 // number.
-fn pass(t: &[u8], n: usize, from: u64, to: u64) -> usize
+fn pass(t: &[u8], n: usize, stems: &Range<u64>) -> usize
     requires { n ≡ circuits t.now }
-    ensures { result ≡ lowest_to (repeated_in from to (circuit_at t.now)) (2 * n) }
+    ensures { result ≡ lowest_to (repeated_in stems.now.start stems.now.end (circuit_at t.now)) (2 * n) }
 {
     let mut w = [0u64; WORDS];
     for number in 0..n {
         let circuit = Record { table: t, number };
-        if note(circuit, &mut w, Side::Holder, from, to) {
+        if note(circuit, &mut w, Side::Holder, stems) {
             return 2 * number;
         }
-        if note(circuit, &mut w, Side::Reservation, from, to) {
+        if note(circuit, &mut w, Side::Reservation, stems) {
             return 2 * number + 1;
         }
     }
@@ -181,12 +167,6 @@ fn share(t: &[u8], n: usize) -> u64
     }
 }
 
-fn least(a: usize, b: usize) -> usize
-    ensures { result ≡ cond (ltb a b) a b }
-{
-    if a < b { a } else { b }
-}
-
 // Finds the first part whose reference stands in an earlier part. Equal references have one stem, so each pass finds those of its own range, and the
 // lowest of any pass is the first. What is kept from pass to pass costs stack: the ranges carry their own width, and half of the lowest is held against n.
 pub fn first_repeated(t: &[u8]) -> Option<usize>
@@ -194,13 +174,10 @@ pub fn first_repeated(t: &[u8]) -> Option<usize>
 {
     let n = table::count(t);
     let mut lowest = 2 * n;
-    let mut from = 0;
-    let mut to = share(t, n);
-    while from < STEMS {
-        lowest = least(pass(t, n, from, to), lowest);
-        let next = to + (to - from);
-        from = to;
-        to = next;
+    let mut stems = 0..share(t, n);
+    while stems.start < STEMS {
+        lowest = lowest.min(pass(t, n, &stems));
+        stems = stems.end..stems.end + (stems.end - stems.start);
     }
     if lowest / 2 < n { Some(lowest) } else { None }
 }

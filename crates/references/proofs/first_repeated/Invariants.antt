@@ -5,8 +5,8 @@ use Rattle.references.specs.Filter.{stems}
 use Rattle.references.proofs.Passes.{Sifted}
 use Rattle.references.proofs.first_repeated.Given as goal
 
-abbrev pub invariant-loop-from : goal.invariant-loop-from
-invariant-loop-from l = (l.from < l.to) × (l.to ≤ l.from + stems) × Sifted (circuit_at l.t) (2 * l.n) l.from l.lowest
+abbrev pub invariant-loop-stems : goal.invariant-loop-stems
+invariant-loop-stems l = (l.stems.start < l.stems.end) × (l.stems.end ≤ l.stems.start + stems) × Sifted (circuit_at l.t) (2 * l.n) l.stems.start l.lowest
 
-abbrev pub decreases-loop-from : goal.decreases-loop-from
-decreases-loop-from l = stems - l.from
+abbrev pub decreases-loop-stems : goal.decreases-loop-stems
+decreases-loop-stems l = stems - l.stems.start

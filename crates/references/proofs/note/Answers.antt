@@ -34,22 +34,22 @@ returns-then-not-present-clause-twice c =
     let a = c.args in
     let x = circuit_at a.circuit.table.now in
     let i = a.circuit.number in
-    absent_passed x (2 * i + side_number a.side) a.from a.to (there x i a.side c.present.ensures ∙ c.if-not-present.true)
+    absent_passed x (2 * i + side_number a.side) a.stems.now.start a.stems.now.end (there x i a.side c.present.ensures ∙ c.if-not-present.true)
 
 pub returns-then-not-may_repeat-clause-twice : goal.returns-then-not-may_repeat-clause-twice
 returns-then-not-may_repeat-clause-twice c =
     let a = c.args in
     let x = circuit_at a.circuit.table.now in
     let i = a.circuit.number in
-    not_repeated x (2 * i + side_number a.side) a.from a.to a.w.now c.requires
-    (sym (said x _ a.from a.to a.w.now a.w.now _ (read x i a.side c.reference-r.ensures) c.may_repeat.ensures.lit) ∙ c.if-not-may_repeat.true)
+    not_repeated x (2 * i + side_number a.side) a.stems.now.start a.stems.now.end a.w.now c.requires
+    (sym (said x _ a.stems.now.start a.stems.now.end a.w.now a.w.now _ (read x i a.side c.reference-r.ensures) c.may_repeat.ensures.lit) ∙ c.if-not-may_repeat.true)
 
 pub returns-then-not-may_repeat-clause-words : goal.returns-then-not-may_repeat-clause-words
 returns-then-not-may_repeat-clause-words c =
     let a = c.args in
     let x = circuit_at a.circuit.table.now in
     let i = a.circuit.number in
-    more x (2 * i + side_number a.side) a.from a.to a.w.now _ _ (read x i a.side c.reference-r.ensures) c.requires c.may_repeat.ensures.words
+    more x (2 * i + side_number a.side) a.stems.now.start a.stems.now.end a.w.now _ _ (read x i a.side c.reference-r.ensures) c.requires c.may_repeat.ensures.words
 
 pub returns-clause-twice : goal.returns-clause-twice
 returns-clause-twice c =
@@ -60,12 +60,12 @@ returns-clause-twice c =
     let r = (part_numbered x j).reference in
     let was = read x i a.side c.reference-r.ensures in
     let here = there x i a.side c.present.ensures ∙ c.if-not-present.false in
-    let ranged = and_left (in_range a.from a.to r) (already a.w.now r) (sym (said x j a.from a.to a.w.now a.w.now _ was c.may_repeat.ensures.lit) ∙ c.if-not-may_repeat.false) in
-    and_on (in_range a.from a.to r) (repeated x j) (sym ranged) refl (c.stands_before.ensures ∙ ap (λ (r : List ℕ). stands_to x r j) was ∙ by_search x j here)
+    let ranged = and_left (in_range a.stems.now.start a.stems.now.end r) (already a.w.now r) (sym (said x j a.stems.now.start a.stems.now.end a.w.now a.w.now _ was c.may_repeat.ensures.lit) ∙ c.if-not-may_repeat.false) in
+    and_on (in_range a.stems.now.start a.stems.now.end r) (repeated x j) (sym ranged) refl (c.stands_before.ensures ∙ ap (λ (r : List ℕ). stands_to x r j) was ∙ by_search x j here)
 
 pub returns-clause-words : goal.returns-clause-words
 returns-clause-words c =
     let a = c.args in
     let x = circuit_at a.circuit.table.now in
     let i = a.circuit.number in
-    more x (2 * i + side_number a.side) a.from a.to a.w.now _ _ (read x i a.side c.reference-r.ensures) c.requires c.may_repeat.ensures.words
+    more x (2 * i + side_number a.side) a.stems.now.start a.stems.now.end a.w.now _ _ (read x i a.side c.reference-r.ensures) c.requires c.may_repeat.ensures.words

@@ -14,29 +14,29 @@ pub returns-then-note : goal.returns-then-note
 returns-then-note c =
     let a = c.args in
     let i = c.loop-number.number in
-    lowest_at (repeated_in a.from a.to (circuit_at a.t.now)) (2 * a.n) (2 * i) (omega arith) c.loop-number.invariant.0
-    (said (circuit_at a.t.now) a.from a.to (add-zero (2 * i)) c.note.ensures.twice c.if-note.true)
+    lowest_at (repeated_in a.stems.now.start a.stems.now.end (circuit_at a.t.now)) (2 * a.n) (2 * i) (omega arith) c.loop-number.invariant.0
+    (said (circuit_at a.t.now) a.stems.now.start a.stems.now.end (add-zero (2 * i)) c.note.ensures.twice c.if-note.true)
 
 pub returns-then-note-2 : goal.returns-then-note-2
 returns-then-note-2 c =
     let a = c.args in
     let x = circuit_at a.t.now in
     let i = c.loop-number.number in
-    let past = below_more (λ (j : ℕ). repeated_in a.from a.to x j ≡ false) (2 * i) c.loop-number.invariant.0 (said x a.from a.to (add-zero (2 * i)) c.note.ensures.twice c.if-note.false) in
-    lowest_at (repeated_in a.from a.to x) (2 * a.n) (2 * i + 1) (omega arith) past (sym c.note-in-loop-number.ensures.twice ∙ c.if-note-2.true)
+    let past = below_more (λ (j : ℕ). repeated_in a.stems.now.start a.stems.now.end x j ≡ false) (2 * i) c.loop-number.invariant.0 (said x a.stems.now.start a.stems.now.end (add-zero (2 * i)) c.note.ensures.twice c.if-note.false) in
+    lowest_at (repeated_in a.stems.now.start a.stems.now.end x) (2 * a.n) (2 * i + 1) (omega arith) past (sym c.note-in-loop-number.ensures.twice ∙ c.if-note-2.true)
 
 pub loop-number-preserved : goal.loop-number-preserved
 loop-number-preserved c =
     let a = c.args in
     let x = circuit_at a.t.now in
     let i = c.loop-number.number in
-    let past = below_more (λ (j : ℕ). repeated_in a.from a.to x j ≡ false) (2 * i) c.loop-number.invariant.0 (said x a.from a.to (add-zero (2 * i)) c.note.ensures.twice c.if-note.false) in
+    let past = below_more (λ (j : ℕ). repeated_in a.stems.now.start a.stems.now.end x j ≡ false) (2 * i) c.loop-number.invariant.0 (said x a.stems.now.start a.stems.now.end (add-zero (2 * i)) c.note.ensures.twice c.if-note.false) in
     let next : 2 * i + 1 + 1 ≡ 2 * (i + 1) + 0 = omega arith in (
-      (λ j l. below_more (λ (j : ℕ). repeated_in a.from a.to x j ≡ false) (2 * i + 1) past (sym c.note-in-loop-number.ensures.twice ∙ c.if-note-2.false) j (omega arith)),
-      subst (Seen x a.from a.to _) next c.note-in-loop-number.ensures.words,
+      (λ j l. below_more (λ (j : ℕ). repeated_in a.stems.now.start a.stems.now.end x j ≡ false) (2 * i + 1) past (sym c.note-in-loop-number.ensures.twice ∙ c.if-note-2.false) j (omega arith)),
+      subst (Seen x a.stems.now.start a.stems.now.end _) next c.note-in-loop-number.ensures.words,
     )
 
 pub returns : goal.returns
 returns c =
     let a = c.args in
-    lowest-none (repeated_in a.from a.to (circuit_at a.t.now)) (2 * a.n) (λ j l. c.loop-number.invariant.0 j (omega arith))
+    lowest-none (repeated_in a.stems.now.start a.stems.now.end (circuit_at a.t.now)) (2 * a.n) (λ j l. c.loop-number.invariant.0 j (omega arith))
