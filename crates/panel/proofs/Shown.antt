@@ -1,5 +1,5 @@
 -- The panel shows the free circuits, and names the one that a search takes.
-use Prim.Native.Nat.{◌+◌, ◌*◌}
+use Prim.Native.Nat.{ℕ, ◌+◌, ◌*◌}
 use mathlib.Core.Path.{◌≡◌, refl, sym, ap, ◌∙◌}
 use mathlib.Core.Bool.{Bool, true≢false}
 use native.Mathlib.Omega.{arith}

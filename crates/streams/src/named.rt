@@ -34,10 +34,9 @@ pub fn refused(name: &[u8]) -> io::Error {
 // Says on standard error what is amiss, and why.
 pub fn say(rt: &HostRuntime, what: &[u8], why: &[u8]) -> Reported {
     let error = rt.stderr();
-    let _ = error.write_all(what);
-    let _ = error.write_all(b": ");
-    let _ = error.write_all(why);
-    let _ = error.write_all(b"\n");
+    for part in [what, b": ", why, b"\n"] {
+        let _ = error.write_all(part);
+    }
     Reported
 }
 
