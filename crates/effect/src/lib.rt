@@ -39,10 +39,14 @@ fn act(t: &mut [u8], e: Event, a: Act, i: usize)
     }
     .circuit()
     .made(e, a);
+    // Each act has an arm of its own: where arms are joined by `|`, a mixed list of 16 circuits takes 411 instructions an event, and its budget is 400.
     match a {
-        Act::Seize | Act::Unmark => table::store(t, i, c),
-        Act::Reserve | Act::Cancel => table::store_reservation(t, i, c.reservation, c.clock),
-        Act::Release | Act::Answered => table::store_holder(t, i, c.holder, c.ringing),
+        Act::Seize => table::store(t, i, c),
+        Act::Reserve => table::store_reservation(t, i, c.reservation, c.clock),
+        Act::Release => table::store_holder(t, i, c.holder, c.ringing),
+        Act::Cancel => table::store_reservation(t, i, c.reservation, c.clock),
+        Act::Unmark => table::store(t, i, c),
+        Act::Answered => table::store_holder(t, i, c.holder, c.ringing),
     }
 }
 
