@@ -39,7 +39,7 @@ fn act(t: &mut [u8], e: Event, a: Act, i: usize)
     }
     .circuit()
     .made(e, a);
-    // Each act has an arm of its own: where arms are joined by `|`, a mixed list of 16 circuits takes 411 instructions an event, and its budget is 400.
+    // Each act has an arm of its own: joined by `|`, equal arms cost an event of a list 13 instructions more.
     match a {
         Act::Seize => table::store(t, i, c),
         Act::Reserve => table::store_reservation(t, i, c.reservation, c.clock),

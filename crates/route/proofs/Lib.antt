@@ -4,3 +4,4 @@ pub mod Listed
 pub mod Whole
 pub mod Determined
 pub mod Results
+pub mod Reread

@@ -1,6 +1,5 @@
--- Every answer's number is below 64; so what is told of an event says both its number and the loser's level.
-use Prim.Native.Nat.{ℕ, ◌/◌, ◌%◌, ◌<◌}
-use mathlib.Core.Path.{◌≡◌}
+-- Every answer's number is below 64.
+use Prim.Native.Nat.{ℕ, ◌<◌}
 use mathlib.Core.Bool.{Bool, true, false, cond, ◌||◌}
 use mathlib.Core.List.{List}
 use native.Mathlib.Omega.{arith}
@@ -14,7 +13,6 @@ use Rattle.rules.specs.Answer.{anothers, answer_of}
 use Rattle.rules.specs.Layout.{Layout}
 use Rattle.rules.specs.Run.{outcome_of, answered}
 use Rattle.rules.proofs.Numbers.{refusal_below}
-use Rattle.route.specs.Entries.{told}
 
 either_below : (b : Bool) (j k : ℕ) → j < 64 → k < 64 → cond b j k < 64
 either_below true j k p q = p
@@ -35,11 +33,3 @@ module _ (x : ℕ → Circuit) (n : ℕ) (e : Event) where
 pub number_below : {S : Type 0} (L : Layout S) (s : S) (e : List ℕ) → (answered L s e).number < 64
 unfolding answered
 number_below L s e = outcome_below (L.view s) (L.count s) (L.event e) (outcome_of L s (L.event e))
-
--- ---- what is told is taken apart
-module _ {S : Type 0} (L : Layout S) (s : S) (e : List ℕ) {w : ℕ} (h : w ≡ told (answered L s e)) where
-  pub number_of : {n : ℕ} → n ≡ w % 256 → n ≡ (answered L s e).number
-  number_of q = omega (arith, h, q, number_below L s e)
-
-  pub level_of : {l : ℕ} → l ≡ w / 256 → l ≡ (answered L s e).call.mark.level.0
-  level_of q = omega (arith, h, q, number_below L s e)

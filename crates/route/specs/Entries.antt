@@ -1,15 +1,10 @@
 -- This is 01, "Numbers given back": what one event, or a list, gives back and leaves in table and answers. At 20 no buffer is written.
-use Rattle.std.specs.Prelude.{ℕ, zero, suc, ◌+◌, ◌*◌, ◌/◌, Bool, cond, ◌&&◌, length, eqb, Result, Ok, Err}
+use Rattle.std.specs.Prelude.{ℕ, zero, suc, ◌/◌, Bool, cond, ◌&&◌, length, eqb, Result, Ok, Err}
 use mathlib.Core.List.{List, [], ◌∷◌, ◌++◌, flatten}
-use Rattle.rules.specs.declared.answer.Answer.{Answer}
 use Rattle.route.specs.declared.WrongLength.{WrongLength}
 use Rattle.rules.specs.Numbers.{done, wrong_length}
 use Rattle.rules.specs.Run.{after, answered, answer_record, run, answer_records}
 use Rattle.rules.specs.Records.{records, table_length, event_size, event_in, answer_size, list_length}
-
--- what an event that was applied tells beside its answer's octets: the number, and 256 times the level under which a lost holder stood
-abbrev pub told : Answer → ℕ
-told a = 256 * a.call.mark.level.0 + a.number
 
 -- ---- one event: table t, event e, answer a
 -- the lengths are those of a table, of one event and of one answer

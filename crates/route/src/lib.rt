@@ -8,9 +8,10 @@ ghost use Rattle.octets.specs.Span.{put};
 ghost use Rattle.rules.specs.Valid as table;
 ghost use Rattle.rules.specs.Run.{after, answered, answer_record, run, answer_records};
 ghost use Rattle.rules.specs.Records.{circuits, most_circuits, table_length, event_size, event_in, answer_size, list_length, records};
-ghost use Rattle.route.specs.Entries.{told, event_lengths, event_number_of, event_number, event_table, event_answer, events_to, list_number_of, list_number, list_table, list_answers};
+ghost use Rattle.route.specs.Entries.{event_lengths, event_number_of, event_number, event_table, event_answer, events_to, list_number_of, list_number, list_table, list_answers};
 
 use events::{ANSWER_SIZE, EVENT_SIZE, MOST_EVENTS};
+use rules::level::Level;
 use rules::number;
 use rules::verdict::Verdict;
 
@@ -29,16 +30,15 @@ impl From<WrongLength> for u8 {
     }
 }
 
-// Applies event k to a table, writes its answer as answer k, and tells the number of the answer and the level under which a holder that it
-// lost stood, which no answer has. The verdict on the table is known. The answer names the losers, so it is made of the table as it was; each
-// step reads the circuit that it needs anew, since the compiler then keeps none in memory. What is told is one number, since the
-// compiler gives a struct back through memory, which costs a list far more.
-pub fn apply(t: &mut [u8], es: &[u8], answers: &mut [u8], k: usize, verdict: Verdict) -> u16
+// Applies event k to a table, writes its answer as answer k, and gives the level under which a holder stood that was lost, which no answer has.
+// The verdict on the table is known. The answer names the losers, so it is made of the table as it was; each step reads the circuit that it
+// needs anew, since the compiler then keeps none in memory.
+pub fn apply(t: &mut [u8], es: &[u8], answers: &mut [u8], k: usize, verdict: Verdict) -> Level
     requires t_bound { circuits t.old ≤ most_circuits }
     requires event_size_in_bounds { event_size * k + event_size ≤ length es.now }
     requires answer_size_in_bounds { answer_size * k + answer_size ≤ length answers.old }
     requires verdict_value { verdict ≡ table.verdict records t.old }
-    ensures told { result ≡ told (answered records t.old (event_in es.now k)) }
+    ensures loser { result ≡ (answered records t.old (event_in es.now k)).call.mark.level }
     ensures table { t.new ≡ after records t.old (event_in es.now k) }
     ensures answers { answers.new
         ≡ put answers.old (answer_size * k) (answer_record records t.old (event_in es.now k)) }
@@ -48,21 +48,7 @@ pub fn apply(t: &mut [u8], es: &[u8], answers: &mut [u8], k: usize, verdict: Ver
     let answer = answer::answered(t, e, outcome);
     effect::effect(t, e, outcome);
     events::write(answers, k, answer);
-    256 * answer.call.mark.level.0 as u16 + answer.number as u16
-}
-
-// Gives the number of the answer in what was told.
-pub fn number_told(told: u16) -> u8
-    ensures { result ≡ told % 256 }
-{
-    (told % 256) as u8
-}
-
-// Gives the loser's level in what was told.
-pub fn level_told(told: u16) -> u8
-    ensures { result ≡ told / 256 }
-{
-    (told / 256) as u8
+    answer.call.mark.level
 }
 
 // Tells whether the lengths of a table, an event and its answer are right.
@@ -83,7 +69,8 @@ pub fn event(t: &mut [u8], e: &[u8], a: &mut [u8]) -> Result<u8, WrongLength>
         return Err(WrongLength);
     }
     let verdict = validity::verdict(t);
-    Ok(number_told(apply(t, e, a, 0, verdict)))
+    apply(t, e, a, 0, verdict);
+    Ok(events::number(events::answer_at(a, 0)))
 }
 
 // Tells whether the lengths of a table, its events and their answer places are right.

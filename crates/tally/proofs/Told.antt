@@ -1,20 +1,16 @@
 -- The octets of an answer tell whether a holder was lost, as the answer has it; so what is counted is the event's share.
-use Prim.Native.Nat.{ℕ, ◌+◌, ◌*◌, ◌<◌, ◌≤◌}
+use Prim.Native.Nat.{ℕ, ◌<◌}
 use mathlib.Core.Path.{◌≡◌, refl, sym, ap, ◌∙◌, subst}
 use mathlib.Core.Bool.{Bool, true, false}
 use mathlib.Core.List.{List}
 use native.Mathlib.Omega.{arith}
-use lib.ListN.{length}
-use Rattle.octets.specs.Span.{put}
-use Rattle.octets.proofs.Spans.{span_cong, span_all, put_on}
 use Rattle.std.specs.Bool.{then_some}
 use Rattle.std.specs.Prelude.{Option, is_some, IfSome}
 use Rattle.rules.specs.declared.level.Level.{Level}
 use Rattle.rules.specs.declared.event.Event.{Event}
 use Rattle.rules.specs.Run.{answered, answer_record}
-use Rattle.rules.specs.Records.{records, event_at, answer_size, answer_in, lost_call, is_lost}
+use Rattle.rules.specs.Records.{records, event_at, lost_call, is_lost}
 use Rattle.rules.proofs.Records.{flag_back}
-use Rattle.route.proofs.Listed.{length-answer}
 use Rattle.tally.specs.Places as place
 use Rattle.tally.specs.Shares.{adds, level_lost, lost_under, shares}
 use Rattle.tally.specs.Entry.{added}
@@ -22,23 +18,15 @@ use Rattle.route.proofs.Numbers.{number_below}
 use Rattle.tally.proofs.Added.{added_cong, at_nothing}
 use Rattle.tally.proofs.Shared.{level-place}
 
--- the answer to event o over table t was written as answer k and read again as a
-module _ (t o places : List ℕ) (k : ℕ) (fits : answer_size * k + answer_size ≤ length places) {p a : List ℕ} (written : p ≡ put places (answer_size * k) (answer_record records t o)) (read : a ≡ answer_in p k) where
-  same : a ≡ answer_record records t o
-  same =
-      let r = answer_record records t o in
-      let size = length-answer t o in
-      read ∙ ap (λ (q : List ℕ). answer_in q k) written
-      ∙ span_cong (put places (answer_size * k) r) (answer_size * k) r 0 answer_size (λ i m. put_on places (answer_size * k) r (omega arith) i (omega arith))
-      ∙ span_all r answer_size size
-
+-- the octets of the answer to event o over table t were read as a
+module _ (t o : List ℕ) {a : List ℕ} (read : a ≡ answer_record records t o) where
   lost-is : {q : List ℕ} {lost : Bool} → q ≡ lost_call a → lost ≡ is_lost q → lost ≡ (answered records t o).call.present
   unfolding answer_record records
-  lost-is h g = g ∙ ap is_lost h ∙ ap (λ (r : List ℕ). is_lost (lost_call r)) same ∙ flag_back (answered records t o).call.present
+  lost-is h g = g ∙ ap is_lost h ∙ ap (λ (r : List ℕ). is_lost (lost_call r)) read ∙ flag_back (answered records t o).call.present
 
   -- the loser's level, where the octets say that there is one
-  pub told-lost : {q : List ℕ} {b : Bool} {l : ℕ} {lost : Option Level} → q ≡ lost_call a → b ≡ is_lost q → l ≡ (answered records t o).call.mark.level.0 → lost ≡ then_some b (record { 0 = l }) → lost ≡ lost_under (answered records t o)
-  told-lost h g m e = e ∙ (λ i. then_some (lost-is h g i) (record { 0 = m i }))
+  pub told-lost : {q : List ℕ} {b : Bool} {l : Level} {lost : Option Level} → q ≡ lost_call a → b ≡ is_lost q → l ≡ (answered records t o).call.mark.level → lost ≡ then_some b l → lost ≡ lost_under (answered records t o)
+  told-lost h g m e = e ∙ (λ i. then_some (lost-is h g i) (m i))
 
 -- what an event adds hangs on a loser's level only where there is a loser
 adds_lost : (kind taker k : ℕ) (present : Bool) (level : Level) (j : ℕ) → let lost : Option Level = then_some present level in adds kind taker k (is_some lost) (level_lost lost) j ≡ adds kind taker k present level.0 j

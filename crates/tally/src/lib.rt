@@ -17,7 +17,6 @@ ghost use Rattle.tally.specs.Room.{HasRoomFor};
 ghost use Rattle.tally.specs.Entry.{added, number_of, figures_number, figures_table, figures_answers, figures_totals};
 
 use events::EVENT_SIZE;
-use rules::level::Level;
 use rules::number;
 use rules::part::Side;
 use rules::verdict::Verdict;
@@ -80,11 +79,11 @@ fn step(t: &mut [u8], es: &[u8], places: &mut [u8], totals: &mut Totals, k: usiz
         ≡ added (shares (event_at (event_in es.now k)) (answered records t.old (event_in es.now k)))
         totals.old }
 {
-    let told = route::apply(t, es, places, k, verdict);
+    let loser = route::apply(t, es, places, k, verdict);
     let e = events::read(es, k);
-    let loser = Level(route::level_told(told));
-    let lost = events::is_lost(events::lost_call(events::answer_at(places, k))).then_some(loser);
-    totals::count(totals, e.kind, e.mark.level, route::number_told(told), lost);
+    let answer = events::answer_at(places, k);
+    let lost = events::is_lost(events::lost_call(answer)).then_some(loser);
+    totals::count(totals, e.kind, e.mark.level, events::number(answer), lost);
 }
 
 // Applies the first n events one after another, and counts each. The table was looked at once, before them.
