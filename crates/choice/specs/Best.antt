@@ -1,16 +1,19 @@
 -- The best circuit so far is carried along a route with its rank.
-use Rattle.std.specs.Prelude.{ℕ, zero, suc, cond, ltb, Option, Some, None}
+use Rattle.std.specs.Prelude.{ℕ, Bool, cond, nat_lt, Option, Some, None}
 use Rattle.choice.specs.declared.Best.{Best}
+use Rattle.choice.specs.declared.Glance.{Glance}
+use Rattle.choice.specs.declared.Glance.TheVariants.{Free, Better, NoBetter}
 
-abbrev pub above : ℕ → ℕ → ℕ  -- rank k if it is above the greatest so far, else 0
-above top k = cond (ltb top k) k 0
+abbrev pub greatest : Option Best → ℕ  -- the greatest rank so far
+greatest (Some b) = b.rank
+greatest None = 0
 
-abbrev pub improved : Best → ℕ → ℕ → Best  -- circuit i of a greater rank replaces the best so far
-improved b here i = cond (ltb b.rank here) (record { rank = here; at = i }) b
+abbrev pub above : ℕ → ℕ → Glance  -- a circuit of rank k is better if that is above the greatest so far
+above top k = cond (nat_lt top k) (Better k) NoBetter
 
-abbrev pub found_in : Best → Option ℕ  -- rank 0 means that nothing was found
-found_in b = cond (ltb 0 b.rank) (Some b.at) None
+abbrev pub glanced : ℕ → Bool → ℕ → Glance  -- what a glance tells of a circuit of rank k, which is free or not
+glanced top is_free k = cond is_free Free (above top k)
 
-abbrev pub carried_to : (ℕ → ℕ) → ℕ → Best  -- what is carried past the circuits below n, whose ranks k gives
-carried_to k zero = record { rank = 0; at = 0 }
-carried_to k (suc n) = improved (carried_to k n) (k n) n
+abbrev pub carried : (ℕ → ℕ) → Option ℕ → Option Best  -- what is carried where circuit i was found, and the rank that k gives it
+carried k (Some i) = Some (record { rank = k i; at = i })
+carried k None = None

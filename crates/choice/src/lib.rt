@@ -2,46 +2,51 @@
 
 #![tactic(auto)]
 
-ghost use Rattle.std.specs.Prelude.{◌≡◌, cond, ◌<◌};
+ghost use Rattle.std.specs.Prelude.{◌≡◌, ◌<◌};
 ghost use Rattle.rules.specs.Search.{first_to};
 ghost use Rattle.rules.specs.Circuit.{part_on, is_of, free, rank};
 ghost use Rattle.rules.specs.Records.{circuits, circuit_at};
 ghost use Rattle.rules.specs.Choice.{choice, held_by, reserved_by};
 ghost use Rattle.table.specs.Record.{circuit_in};
-ghost use Rattle.choice.specs.Best.{above, improved, found_in};
+ghost use Rattle.choice.specs.Best.{greatest, above, glanced};
 
 use rules::mark::Mark;
 use rules::part::{Reference, Side};
 use rules::standing::Standing;
 use table::Record;
 
-// A glance at a circuit gives this number where the circuit is free. No rank is 1.
-const FREE: usize = 1;
+// A glance at a circuit tells a search that it is free, or takeable and of a rank above the greatest so far, or neither.
+#[derive(Clone, Copy)]
+enum Glance {
+    Free,
+    Better(usize),
+    NoBetter,
+}
 
-// Gives the rank of a circuit that is not free, for a call with this mark, if it is above `top`, else 0. The cheapest test goes first: the
+// Tells whether a circuit that is not free is better for a call with this mark than one of rank `top`. The cheapest test goes first: the
 // level of the part that stands, then its worth; whether the circuit is preemptable, and the domain, which is five octets, are asked only
 // where the circuit would be better.
-fn weighed(circuit: Record, by: Mark, top: usize) -> usize
+fn weighed(circuit: Record, by: Mark, top: usize) -> Glance
     ensures { result ≡ above top (rank by (circuit_in circuit.entry)) }
 {
     let level = circuit.level();
     if !by.level.higher(level) {
-        return 0;
+        return Glance::NoBetter;
     }
     let worth = Standing::worth(circuit.present(Side::Holder), level);
     if worth <= top {
-        return 0;
+        return Glance::NoBetter;
     }
     if circuit.standing().takeable(by) {
-        worth
+        Glance::Better(worth)
     } else {
-        0
+        Glance::NoBetter
     }
 }
 
-// Looks at a circuit for a call with this mark: gives FREE where it is free, its rank where that is above `top`, else 0.
-fn glance(circuit: Record, by: Mark, top: usize) -> usize
-    ensures { result ≡ cond (free (circuit_in circuit.entry)) 1 (above top (rank by (circuit_in circuit.entry))) }
+// Looks at a circuit for a call with this mark, where the greatest rank so far is `top`.
+fn look(circuit: Record, by: Mark, top: usize) -> Glance
+    ensures { result ≡ glanced top (free (circuit_in circuit.entry)) (rank by (circuit_in circuit.entry)) }
 {
     if circuit.present(Side::Reservation) {
         return weighed(circuit, by, top);
@@ -49,49 +54,37 @@ fn glance(circuit: Record, by: Mark, top: usize) -> usize
     if circuit.present(Side::Holder) {
         weighed(circuit, by, top)
     } else {
-        FREE
+        Glance::Free
     }
 }
 
-// This is the greatest rank so far, and the lowest circuit that has it; the rank is 0 where none was takeable.
+// This is the greatest rank so far, and the lowest circuit that has it.
 #[derive(Clone, Copy)]
 struct Best {
     rank: usize,
     at: usize,
 }
 
-impl Best {
-    // Gives the best after circuit i, at which a glance gave `here`; of equals the earlier one stays.
-    fn improved(self, here: usize, i: usize) -> Best
-        ensures { result ≡ improved self here i }
-    {
-        if here <= self.rank {
-            self
-        } else {
-            Best { rank: here, at: i }
-        }
-    }
-
-    fn found(self) -> Option<usize>
-        ensures { result ≡ found_in self }
-    {
-        if 0 < self.rank { Some(self.at) } else { None }
-    }
+// Gives the greatest rank so far, or 0 where no circuit is takeable so far.
+fn greatest(best: Option<Best>) -> usize
+    ensures { result ≡ greatest best }
+{
+    best.map_or(0, |best| best.rank)
 }
 
 // Finds the circuit that a call with this mark gets: the lowest free one, else the best takeable one.
 pub fn choose(t: &[u8], by: Mark) -> Option<usize>
     ensures { result ≡ choice (circuit_at t.now) (circuits t.now) by }
 {
-    let mut best = Best { rank: 0, at: 0 };
+    let mut best: Option<Best> = None;
     for number in 0..table::count(t) {
-        let here = glance(Record { table: t, number }, by, best.rank);
-        if here == FREE {
-            return Some(number);
+        match look(Record { table: t, number }, by, greatest(best)) {
+            Glance::Free => return Some(number),
+            Glance::Better(rank) => best = Some(Best { rank, at: number }),
+            Glance::NoBetter => {}
         }
-        best = best.improved(here, number);
     }
-    best.found()
+    best.map(|best| best.at)
 }
 
 // Finds the circuit on which the call with this reference stands on a side.
