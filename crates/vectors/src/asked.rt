@@ -58,8 +58,8 @@ fn changed(page: Page, row: &Row, table: &Table) {
 // Answers what the letter of a row asks. The letters are those that the script's head lists, and an enum would name each once more.
 fn answer(page: Page, row: &Row, table: &Table) {
     match row.letter {
-        b'P' => field::precedence(page, row),
-        b'R' => field::reference(page, row),
+        b'P' => field::read_precedence(page, row),
+        b'R' => field::read_reference(page, row),
         b'Q' => field::written(page, row, field::write_precedence),
         b'S' => field::written(page, row, field::write_reference),
         b'F' => part::found(page, row.given()),

@@ -1,6 +1,5 @@
 // This module writes the cells of an answer to standard output, each after a space.
 use rules::answer::NO_DETAIL;
-use rules::search::Found;
 use rules::verdict::Check;
 use std::fmt::Display;
 use std::io::{Print, Stdout};
@@ -47,10 +46,10 @@ impl Page {
     }
 
     // Writes the circuit that a search found, or a dash.
-    pub fn found(self, circuit: Found) {
+    pub fn found(self, circuit: Option<usize>) {
         match circuit {
-            Found::At(i) => self.number(i),
-            Found::Nothing => self.put(b"  -"),
+            Some(i) => self.number(i),
+            None => self.put(b"  -"),
         }
     }
 

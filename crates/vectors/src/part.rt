@@ -2,13 +2,16 @@
 use crate::field;
 use crate::page::Page;
 use crate::script::{ROW, Row, UNWRITTEN};
+use optional::search::Found;
+use optional::write::Written;
+use optional::{part, search, write};
 
 // A list of one long parameter, and the part of it, have room for more octets than contents may have.
 const LONG: usize = 600;
 
 // Finds precedence in a part: number, whether it was found, where it starts, where the part ends; its values.
 pub fn found(page: Page, part: &[u8]) {
-    let r = optional::search::Found::from(optional::search::find(part));
+    let r = Found::from(search::find(part));
     page.number(r.number);
     page.number(r.found);
     page.number(r.start);
@@ -18,7 +21,7 @@ pub fn found(page: Page, part: &[u8]) {
 
 // Takes one step from the place that the row's first octet says, in the part of its others: number, name, length; start and next.
 pub fn step(page: Page, row: &Row) {
-    let p = optional::part::parameter_at(row.rest(), usize::from(row.first()));
+    let p = part::parameter_at(row.rest(), usize::from(row.first()));
     page.number(p.number);
     page.number(p.name);
     page.number(p.length);
@@ -29,7 +32,7 @@ pub fn step(page: Page, row: &Row) {
 
 // Writes a list into a buffer, and gives its number and end.
 fn put(page: Page, buffer: &mut [u8], list: &[u8]) {
-    let r = optional::write::Written::from(optional::write::write(buffer, list));
+    let r = Written::from(write::write(buffer, list));
     page.number(r.number);
     page.number(r.end);
 }

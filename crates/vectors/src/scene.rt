@@ -6,7 +6,8 @@ use crate::route_table::{ROOM, Table};
 use crate::script::{ROW, Row, UNWRITTEN};
 use events::ANSWER_SIZE;
 use lines::event::MOST_LETTERS;
-use rules::number::WRONG_LENGTH;
+use route::WrongLength;
+use rules::number::DONE;
 use table::CIRCUIT_SIZE;
 
 // This octet of a circuit is the low octet of its holder's identity.
@@ -75,14 +76,6 @@ impl Scene {
         self.table = Table::new(self.circuits, usize::from(length));
     }
 
-    // Writes the program's line for an answer, unless nothing was written.
-    fn lined(&self, page: Page, number: u8, answer: [u8; ANSWER_SIZE]) {
-        match number {
-            WRONG_LENGTH => page.put(b"\n"),
-            _ => line(page, self.played.next_number(), answer),
-        }
-    }
-
     // Plays one event by itself: what came back, and the octets of the answer. Keeps it with its answer for the list.
     fn event(&mut self, page: Page, row: &Row) {
         let mut buffer = [UNWRITTEN; ROW];
@@ -90,9 +83,12 @@ impl Scene {
         let number = route::event(self.table.octets_mut(), row.given(), &mut buffer[..size]);
         let answer = events::answer_at(&buffer, 0);
         page.put(b"=");
-        page.number(number);
+        page.number(number.unwrap_or_else(u8::from));
         page.buffer(&buffer, self.answer_size);
-        self.lined(page, number, answer);
+        match number {
+            Ok(_) => line(page, self.played.next_number(), answer),
+            Err(WrongLength) => page.put(b"\n"),
+        }
         self.played.keep(row.part(0), answer);
     }
 
@@ -111,9 +107,9 @@ impl Scene {
         let mut places = [UNWRITTEN; LIST];
         let given = self.played.and_more(row.part(0));
         let wanted = self.played.and_more(row.part(3));
-        let number = route::list(table.octets_mut(), &events[..given], &mut places[..wanted]);
+        let done = route::list(table.octets_mut(), &events[..given], &mut places[..wanted]);
         page.put(b"=");
-        page.number(number);
+        page.number(done.map_or_else(u8::from, |()| DONE));
         if places.iter().all(|octet| *octet == UNWRITTEN) {
             page.put(b", nothing written");
         }

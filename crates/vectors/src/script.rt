@@ -68,9 +68,7 @@ impl Row {
     pub fn part<const N: usize>(&self, at: usize) -> [u8; N]
         requires { at + N ≤ 34 }
     {
-        let mut part = [0; N];
-        part.copy_from_slice(&self.octets[at..at + N]);
-        part
+        octets::read(&self.octets, at)
     }
 
     // Gives the octets that the line gives.
