@@ -1,4 +1,4 @@
--- What is carried along a route is the best circuit passed, with its rank.
+-- What is carried along a route is the best circuit passed, and its rank.
 use Prim.Native.Nat.{ℕ, ◌+◌, ◌<◌, ◌≤◌}
 use mathlib.Core.Path.{◌≡◌, refl, sym, ap, ◌∙◌, subst}
 use mathlib.Core.Bool.{Bool, true, false, cond}
@@ -8,16 +8,15 @@ use lib.Dec.{ltb}
 use borrow.Author.Tests.{lt-ltb, le-ltb, ltb-true, ltb-false}
 use Rattle.std.specs.Prelude.{Option, Some, None}
 use Rattle.octets.proofs.Tests.{by_test}
-use Rattle.std.proofs.Common.{below_more, option_map}
+use Rattle.std.proofs.Common.{below_more}
 use Rattle.rules.specs.declared.mark.Mark.{Mark}
 use Rattle.rules.specs.declared.circuit.Circuit.{Circuit}
-use Rattle.rules.specs.Search.{or_else, first_to, better, best_to}
+use Rattle.rules.specs.Search.{or_else, first_to, better, best_to, found}
 use Rattle.rules.specs.Circuit.{free, rank}
 use Rattle.rules.specs.Choice.{choice}
-use Rattle.choice.specs.declared.Best.{Best}
 use Rattle.choice.specs.declared.Glance.{Glance}
 use Rattle.choice.specs.declared.Glance.TheVariants.{Free, Better, NoBetter}
-use Rattle.choice.specs.Best.{greatest, above, glanced, carried}
+use Rattle.choice.specs.Glance.{above, glanced}
 use Rattle.choice.proofs.Walk.{Passed, returned, ended}
 
 -- what a glance tells holds of the circuit
@@ -33,58 +32,61 @@ module _ (top : ℕ) (is_free : Bool) (k : ℕ) where
       (by_test Told is_free Free (above top k) (λ f. f)
       (λ f. by_test Told (ltb top k) (Better k) NoBetter (λ t. (f, ltb-true top k t, refl)) (λ t. (f, ltb-false top k t))))
 
--- what is carried past circuit n, which has rank k n
-module _ (k : ℕ → ℕ) (n : ℕ) where
-  more : (r : Option ℕ) → greatest (carried k r) < k n → better k r n ≡ Some n
-  more (Some i) l = ap (λ (b : Bool). cond b (Some n) (Some i)) (lt-ltb (k i) (k n) l)
-  more None l = ap (λ (b : Bool). cond b (Some n) None) (lt-ltb 0 (k n) l)
-
-  no_more : (r : Option ℕ) → k n ≤ greatest (carried k r) → better k r n ≡ r
-  no_more (Some i) l = ap (λ (b : Bool). cond b (Some n) (Some i)) (le-ltb (k i) (k n) l)
-  no_more None l = ap (λ (b : Bool). cond b (Some n) None) (le-ltb 0 (k n) l)
-
-  module _ {b : Option Best} (before : b ≡ carried k (best_to k n)) where
-    better-carried : {j : ℕ} → greatest b < k n → j ≡ k n → Some (record { rank = j; at = n }) ≡ carried k (best_to k (n + 1))
-    better-carried l e =
-        ap (λ (j : ℕ). Some (record { rank = j; at = n })) e
-        ∙ sym (ap (carried k) (ap (best_to k) (add-one n) ∙ more (best_to k n) (subst (λ (b : Option Best). greatest b < k n) before l)))
-
-    same-carried : k n ≤ greatest b → b ≡ carried k (best_to k (n + 1))
-    same-carried l =
-        before ∙ sym (ap (carried k) (ap (best_to k) (add-one n) ∙ no_more (best_to k n) (subst (λ (b : Option Best). k n ≤ greatest b) before l)))
-
--- where what is carried was found
-found_at : (k : ℕ → ℕ) (r : Option ℕ) → option_map (λ (b : Best). b.at) (carried k r) ≡ r
-found_at k (Some i) = refl
-found_at k None = refl
-
 abbrev pub frees : (ℕ → Circuit) → ℕ → Bool  -- whether each circuit is free
 frees x j = free (x j)
 
 abbrev pub ranks : (ℕ → Circuit) → Mark → ℕ → ℕ  -- the rank of each circuit for a call with this mark
 ranks x by j = rank by (x j)
 
-module _ (x : ℕ → Circuit) (by : Mark) (i : ℕ) (passed : Passed (frees x) i) where
-  abbrev pub Past : Option Best → ℕ → Type 0  -- the circuits below n are not free, and b is carried past them
-  Past b n = Passed (frees x) n × (b ≡ carried (ranks x by) (best_to (ranks x by) n))
+-- of the circuits below n none is free, the best is r, and its rank is `top`
+pub record Passing (x : ℕ → Circuit) (by : Mark) (r : Option ℕ) (top n : ℕ) : Type 0 where
+  pub none_free : Passed (frees x) n
+  pub best : r ≡ best_to (ranks x by) n
+  pub greatest : top ≡ found r (ranks x by) 0
 
-  module _ {b : Option Best} (before : b ≡ carried (ranks x by) (best_to (ranks x by) i)) where
-    pub past-better : {top j : ℕ} → top ≡ greatest b → Told top (free (x i)) (rank by (x i)) (Better j) → Past (Some (record { rank = j; at = i })) (i + 1)
-    past-better e h = (below_more _ i passed h.0, better-carried (ranks x by) i before (omega (arith, h.1)) h.2)
+module _ (x : ℕ → Circuit) (by : Mark) where
+  pub none-passed : Passing x by None 0 0
+  none-passed = record { none_free = λ j l. absurd (omega arith); best = refl; greatest = refl }
 
-    pub past-same : {top : ℕ} → top ≡ greatest b → Told top (free (x i)) (rank by (x i)) NoBetter → Past b (i + 1)
-    past-same e h = (below_more _ i passed h.0, same-carried (ranks x by) i before (omega (arith, h.1)))
+  module _ {r : Option ℕ} {top i : ℕ} (before : Passing x by r top i) where
+    -- what the rank of circuit i makes of the best so far
+    above_it : (s : Option ℕ) → found s (ranks x by) 0 < ranks x by i → better (ranks x by) s i ≡ Some i
+    above_it (Some j) l = ap (λ (b : Bool). cond b (Some i) (Some j)) (lt-ltb (ranks x by j) (ranks x by i) l)
+    above_it None l = ap (λ (b : Bool). cond b (Some i) None) (lt-ltb 0 (ranks x by i) l)
 
-  module _ {m n : ℕ} (counted : m ≡ n) where
-    first_free : {f : Option ℕ} → f ≡ first_to (frees x) n → or_else f (best_to (ranks x by) n) ≡ choice x n by
-    unfolding choice
-    first_free e = ap (λ (f : Option ℕ). or_else f (best_to (ranks x by) n)) e
+    below_it : (s : Option ℕ) → ranks x by i ≤ found s (ranks x by) 0 → better (ranks x by) s i ≡ s
+    below_it (Some j) l = ap (λ (b : Bool). cond b (Some i) (Some j)) (le-ltb (ranks x by j) (ranks x by i) l)
+    below_it None l = ap (λ (b : Bool). cond b (Some i) None) (le-ltb 0 (ranks x by i) l)
 
-    pub free-chosen : i < m → free (x i) ≡ true → Some i ≡ choice x n by
-    free-chosen l t = first_free (returned (frees x) i passed counted l t)
+    next : {s : Option ℕ} → better (ranks x by) r i ≡ s → s ≡ best_to (ranks x by) (i + 1)
+    next e =
+        sym e ∙ ap (λ (r : Option ℕ). better (ranks x by) r i) before.best ∙ sym (ap (best_to (ranks x by)) (add-one i))
 
-    pub best_chosen : i ≤ m → m ≤ i → {b : Option Best} → b ≡ carried (ranks x by) (best_to (ranks x by) i) → {f : Option ℕ} → f ≡ option_map (λ (b : Best). b.at) b → f ≡ choice x n by
-    best_chosen l h e s =
-        let end : i ≡ n = omega arith in
-        s ∙ ap (option_map (λ (b : Best). b.at)) e ∙ found_at (ranks x by) (best_to (ranks x by) i) ∙ ap (best_to (ranks x by)) end
-        ∙ first_free (ended (frees x) i passed counted h)
+    pub pass-better : {s : Option ℕ} {t j : ℕ} → s ≡ Some i → t ≡ j → Told top (free (x i)) (rank by (x i)) (Better j) → Passing x by s t (i + 1)
+    pass-better p q h =
+        record {
+          none_free = below_more _ i before.none_free h.0;
+          best = p ∙ next (above_it r (omega (arith, before.greatest, h.1)));
+          greatest = q ∙ h.2 ∙ ap (λ (s : Option ℕ). found s (ranks x by) 0) (sym p);
+        }
+
+    pub pass-same : {s : Option ℕ} {t : ℕ} → s ≡ r → t ≡ top → Told top (free (x i)) (rank by (x i)) NoBetter → Passing x by s t (i + 1)
+    pass-same p q h =
+        record {
+          none_free = below_more _ i before.none_free h.0;
+          best = p ∙ next (below_it r (omega (arith, before.greatest, h.1)));
+          greatest = q ∙ before.greatest ∙ ap (λ (s : Option ℕ). found s (ranks x by) 0) (sym p);
+        }
+
+    module _ {m n : ℕ} (counted : m ≡ n) where
+      first_free : {f : Option ℕ} → f ≡ first_to (frees x) n → or_else f (best_to (ranks x by) n) ≡ choice x n by
+      unfolding choice
+      first_free e = ap (λ (f : Option ℕ). or_else f (best_to (ranks x by) n)) e
+
+      pub free-chosen : i < m → free (x i) ≡ true → Some i ≡ choice x n by
+      free-chosen l t = first_free (returned (frees x) i before.none_free counted l t)
+
+      pub best_chosen : i ≤ m → m ≤ i → r ≡ choice x n by
+      best_chosen l h =
+          let end : i ≡ n = omega arith in
+          before.best ∙ ap (best_to (ranks x by)) end ∙ first_free (ended (frees x) i before.none_free counted h)

@@ -14,7 +14,7 @@ use Rattle.rules.specs.Circuit.{outranks, standing, free, preemptable, takeable,
 use Rattle.rules.specs.Standing.{standing_of}
 use Rattle.rules.proofs.Choice.{rank-taken, rank_not}
 use Rattle.choice.specs.declared.Glance.TheVariants.{Better, NoBetter}
-use Rattle.choice.specs.Best.{above}
+use Rattle.choice.specs.Glance.{above}
 
 -- ---- what is read of a circuit says its worth, and whether it is takeable
 pub worth-read : (c : Circuit) {w : ℕ} {l : Level} {held : Bool} → l ≡ (standing c).level → held ≡ c.holder.present → w ≡ 1 + 2 * l.0 + cond held 0 1 → w ≡ worth c

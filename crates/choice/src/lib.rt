@@ -8,7 +8,7 @@ ghost use Rattle.rules.specs.Circuit.{part_on, is_of, free, rank};
 ghost use Rattle.rules.specs.Records.{circuits, circuit_at};
 ghost use Rattle.rules.specs.Choice.{choice, held_by, reserved_by};
 ghost use Rattle.table.specs.Record.{circuit_in};
-ghost use Rattle.choice.specs.Best.{greatest, above, glanced};
+ghost use Rattle.choice.specs.Glance.{above, glanced};
 
 use rules::mark::Mark;
 use rules::part::{Reference, Side};
@@ -44,7 +44,7 @@ fn weighed(circuit: Record, by: Mark, top: usize) -> Glance
     }
 }
 
-// Looks at a circuit for a call with this mark, where the greatest rank so far is `top`.
+// Looks at a circuit for a call with this mark, where the greatest rank so far is `top`, or 0.
 fn look(circuit: Record, by: Mark, top: usize) -> Glance
     ensures { result ≡ glanced top (free (circuit_in circuit.entry)) (rank by (circuit_in circuit.entry)) }
 {
@@ -58,33 +58,23 @@ fn look(circuit: Record, by: Mark, top: usize) -> Glance
     }
 }
 
-// This is the greatest rank so far, and the lowest circuit that has it.
-#[derive(Clone, Copy)]
-struct Best {
-    rank: usize,
-    at: usize,
-}
-
-// Gives the greatest rank so far, or 0 where no circuit is takeable so far.
-fn greatest(best: Option<Best>) -> usize
-    ensures { result ≡ greatest best }
-{
-    best.map_or(0, |best| best.rank)
-}
-
 // Finds the circuit that a call with this mark gets: the lowest free one, else the best takeable one.
 pub fn choose(t: &[u8], by: Mark) -> Option<usize>
     ensures { result ≡ choice (circuit_at t.now) (circuits t.now) by }
 {
-    let mut best: Option<Best> = None;
+    let mut best = None;
+    let mut greatest = 0;
     for number in 0..table::count(t) {
-        match look(Record { table: t, number }, by, greatest(best)) {
+        match look(Record { table: t, number }, by, greatest) {
             Glance::Free => return Some(number),
-            Glance::Better(rank) => best = Some(Best { rank, at: number }),
+            Glance::Better(rank) => {
+                best = Some(number);
+                greatest = rank;
+            }
             Glance::NoBetter => {}
         }
     }
-    best.map(|best| best.at)
+    best
 }
 
 // Finds the circuit on which the call with this reference stands on a side.
