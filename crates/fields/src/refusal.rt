@@ -1,6 +1,8 @@
 // A field is read or written, or refused; C gets each refusal as a number.
-ghost use Rattle.std.specs.Prelude.{◌≡◌};
-ghost use Rattle.fields.specs.Given.{refused_number, number_of};
+ghost use Rattle.std.specs.Prelude.{◌≡◌, [], is_some, unwrap_or};
+ghost use Rattle.rules.specs.Numbers.{done, wrong_length};
+ghost use Rattle.fields.specs.declared.refusal.Refused.TheVariants.{Malformed};
+ghost use Rattle.fields.specs.Given.{refused_number, number_of, given};
 
 use rules::number;
 
@@ -20,6 +22,19 @@ impl From<Refused> for u8 {
             Refused::Malformed => number::MALFORMED,
         }
     }
+}
+
+// Fills a buffer of N octets with those of a field, or writes nothing for a buffer of another length or where there are none.
+pub(crate) fn fill<const N: usize>(
+    buffer: &mut [u8],
+    octets: Option<[u8; N]>,
+) -> Result<(), Refused>
+    ensures number { number_of result ≡ given N buffer.old (is_some octets.entry) done (refused_number Malformed) wrong_length }
+    ensures buffer { buffer.new ≡ given N buffer.old (is_some octets.entry) (unwrap_or octets.entry []) buffer.old buffer.old }
+{
+    let buffer = buffer.as_mut_array::<N>().ok_or(Refused::WrongLength)?;
+    *buffer = octets.ok_or(Refused::Malformed)?;
+    Ok(())
 }
 
 // Gives the number of a field that was written or is refused.

@@ -37,10 +37,7 @@ fn party(text: &mut Text, lost: Lost)
     ensures { text.new ≡ extended text.old (field (rule.party lost)) }
 {
     if events::is_lost(lost) {
-        named(
-            text,
-            fields::reference::values(events::lost_reference(lost)),
-        );
+        named(text, Reference::from(events::lost_reference(lost)));
     } else {
         text.put(b" -");
     }
