@@ -45,7 +45,7 @@ impl Survey {
     // Gives the survey with one parameter more.
     fn further(self, entry: Entry) -> Survey
         requires room_fits { self.room + (2 + length entry.contents.now) < 2 ^ 64 }
-        requires given_fits { self.precedences < self.room }
+        requires precedences_below_room { self.precedences < self.room }
         ensures { result ≡ further self (item_of entry.entry) }
     {
         Survey {
