@@ -1,21 +1,19 @@
--- The library's words for a part of a slice, a write to it and the number in it, as `span`, `put` and `value`.
-use Prim.Native.Nat.{ℕ, zero, suc, ◌+◌, ◌-◌, ◌*◌, ◌≤◌, ◌<◌}
+-- The library's words for a part of a slice and for two rows of octets, as `span` and `same`.
+use Prim.Native.Nat.{ℕ, ◌+◌, ◌-◌, ◌*◌, ◌≤◌, ◌<◌}
 use native.Mathlib.Nat.{zero-add}
 use mathlib.Core.Path.{◌≡◌, refl, sym, ap, ap₂, ◌∙◌}
 use mathlib.Core.Bool.{Bool, false, ◌&&◌}
 use mathlib.Core.List.{List, [], ◌∷◌, ◌++◌}
 use native.Mathlib.Omega.{arith}
-use native.Mathlib.Numerals.{add-one}
 use lib.Dec.{eqb}
-use lib.ListN.{length, get_or, set, take, drop, replicate}
+use lib.ListN.{length, get_or, replicate}
 use lib.Pointwise.{pointwise}
-use lib.Seq.{paste, ext_get_or, drop-drop}
+use lib.Seq.{ext_get_or}
 use borrow.Author.Tests.{eq-eqb}
-use borrow.Rule.Slice.PartMut.{put_mid}
 use Rattle.std.specs.List.{between}
-use Rattle.std.proofs.lemmas.List.Edits.{length-between, get_or-between, paste_none, paste_more, paste_all}
+use Rattle.std.proofs.lemmas.List.Edits.{length-between, get_or-between}
 use Rattle.octets.specs.Same.{same}
-use Rattle.octets.specs.Span.{span, number, put_to, put, zeros}
+use Rattle.octets.specs.Span.{span, number, zeros}
 use Rattle.octets.proofs.Tests.{not_so}
 use Rattle.octets.proofs.Sames.{same_true}
 use Rattle.octets.proofs.Width.{value-one}
@@ -27,18 +25,6 @@ span_between t o e w d h =
     let n : length (between o e t) ≡ w = length-between t o e h ∙ omega arith in
     ext_get_or 0 (between o e t) (span t o w) (n ∙ sym (length-span t o w))
     (λ i l. get_or-between t o e i 0 (omega arith) ∙ sym (span_at t o w i (omega arith)))
-
--- a write to a part of a slice
-paste_to : (t : List ℕ) (o : ℕ) (v : List ℕ) (k : ℕ) → o + length v ≤ length t → k ≤ length v → put_to t o v k ≡ paste t o v k
-paste_to t o v zero f l = paste_none t o v
-paste_to t o v (suc k) f l =
-    ap (λ (u : List ℕ). set u (o + k) (get_or v k 0)) (paste_to t o v k f (omega arith))
-    ∙ paste_more t o v k 0 (omega arith) (omega arith) ∙ ap (paste t o v) (add-one k)
-
-pub put_part : (t : List ℕ) (o k : ℕ) (v : List ℕ) → k ≡ length v → o + k ≤ length t → put_mid o k t v ≡ put t o v
-put_part t o k v e f =
-    ap (λ (l : List ℕ). take o t ++ (v ++ l)) (drop-drop k o t ∙ ap (λ (n : ℕ). drop (o + n) t) e)
-    ∙ sym (paste_all t o v (length v) refl) ∙ sym (paste_to t o v (length v) (omega arith) (omega arith))
 
 -- two arrays
 pub same_pointwise : (a b : List ℕ) → pointwise eqb a b ≡ same a b
