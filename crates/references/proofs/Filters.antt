@@ -201,17 +201,3 @@ module _ (x : ℕ → Circuit) (j : ℕ) where
                 (λ i l p q. kept _ (m.set i l p q)) here k
                 (subst (λ (n : ℕ). k < n) (add-one j) l);
           }
-
--- ---- reference r, which is in range or not
-module _ (w r : List ℕ) (from to : ℕ) where
-  pub passed_over : in_range from to r ≡ false → (false ≡ in_range from to r && already w r) × Grown w w r (in_range from to r)
-  passed_over h = (
-    ap (λ (b : Bool). b && already w r) (sym h),
-    record { long = refl; kept = λ s k. k; here = λ p. absurd (true≢false (sym p ∙ h)) },
-  )
-
-  pub noted : (v : List ℕ) {b : Bool} → in_range from to r ≡ true → b ≡ already w r → Grown w v r true → (b ≡ in_range from to r && already w r) × Grown w v r (in_range from to r)
-  noted v h e g = (
-    e ∙ ap (λ (b : Bool). b && already w r) (sym h),
-    record { long = g.long; kept = g.kept; here = λ p. g.here refl },
-  )

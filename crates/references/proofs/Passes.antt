@@ -41,9 +41,6 @@ pub record Sifted (x : ℕ → Circuit) (m from k : ℕ) : Type 0 where
   pub there : k < m → repeated x k ≡ true
 
 module _ (x : ℕ → Circuit) (m : ℕ) where
-  pub sifted_none : Sifted x m 0 m
-  sifted_none = record { most = omega arith; before = λ j l h. absurd (omega arith); there = λ l. absurd (omega arith) }
-
   module _ (from to : ℕ) (k : ℕ) (s : Sifted x m from k) where
     abbrev n : ℕ  -- what the pass finds
     n = lowest_to (repeated_in from to x) m
