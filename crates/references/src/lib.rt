@@ -3,13 +3,13 @@
 
 #![tactic(auto)]
 
-ghost use Rattle.std.specs.Prelude.{◌≡◌, true, ◌&&◌, ◌||◌, ◌+◌, ◌*◌, ◌<◌, ◌≤◌, length};
+ghost use Rattle.std.specs.Prelude.{◌≡◌, true, ◌&&◌, ◌||◌, ◌+◌, ◌*◌, ◌<◌, ◌≤◌};
 ghost use Rattle.rules.specs.Circuit.{is_of};
 ghost use Rattle.rules.specs.Search.{first_to};
 ghost use Rattle.rules.specs.Valid.{side_number, repeated};
 ghost use Rattle.rules.specs.Records.{circuits, circuit_at};
 ghost use Rattle.table.specs.Record.{circuit_in};
-ghost use Rattle.references.specs.Filter.{stems, in_range, bits_in, already, stands_to, repeated_in, lowest_to, Grown, Seen};
+ghost use Rattle.references.specs.Filter.{stems, in_range, bits_in, already, stands_to, repeated_in, Grown, Seen};
 ghost use Rattle.references.specs.Filter as filter;
 
 use rules::part::{Reference, Side};
@@ -121,46 +121,43 @@ fn note(circuit: Record, w: &mut [u64; WORDS], side: Side, stems: &Range<u64>) -
     stands_before(circuit, side, r)
 }
 
-// Goes through all parts of n circuits and gives the first that is in range and whose reference stands in an earlier part; where there is none, their
-// number.
-fn pass(t: &[u8], n: usize, stems: &Range<u64>) -> usize
-    requires { n ≡ circuits t.now }
-    ensures { result ≡ lowest_to (repeated_in stems.now.start stems.now.end (circuit_at t.now)) (2 * n) }
+// Goes through all parts and finds the first that is in range and whose reference stands in an earlier part.
+fn pass(t: &[u8], stems: &Range<u64>) -> Option<usize>
+    ensures { result ≡ first_to (repeated_in stems.now.start stems.now.end (circuit_at t.now)) (2 * circuits t.now) }
 {
     let mut w = [0u64; WORDS];
-    for number in 0..n {
+    for number in 0..table::count(t) {
         let circuit = Record { table: t, number };
         if note(circuit, &mut w, Side::Holder, stems) {
-            return 2 * number;
+            return Some(2 * number);
         }
         if note(circuit, &mut w, Side::Reservation, stems) {
-            return 2 * number + 1;
+            return Some(2 * number + 1);
         }
     }
-    2 * n
+    None
 }
 
-// Counts how many of the first n circuits are reserved, from the last down: the loop then needs a register less.
-fn reserved(t: &[u8], n: usize) -> usize
-    requires { n ≤ circuits t.now }
-    ensures { result ≤ n }
+// Counts how many circuits are reserved, from the last down: the loop then needs a register less.
+fn reserved(t: &[u8]) -> usize
+    ensures { result ≤ circuits t.now }
 {
     let mut count = 0;
-    for number in (0..n).rev() {
+    for number in (0..table::count(t)).rev() {
         count += usize::from(Record { table: t, number }.present(Side::Reservation));
     }
     count
 }
 
-// Gives how many stems a pass over n circuits takes. Nearly every circuit may be held, and few are reserved, so the reservations are counted.
-fn share(t: &[u8], n: usize) -> u64
-    requires { n ≤ circuits t.now }
+// Gives how many stems a pass takes. Nearly every circuit may be held, and few are reserved, so the reservations are counted.
+fn share(t: &[u8]) -> u64
     ensures { (1 ≤ result) × (result ≤ stems) }
 {
+    let n = table::count(t);
     if 2 * n < AT_ONCE {
         return STEMS;
     }
-    if n + reserved(t, n) < 2 * AT_ONCE {
+    if n + reserved(t) < 2 * AT_ONCE {
         STEMS / 2
     } else {
         STEMS / 3 + 1
@@ -168,16 +165,18 @@ fn share(t: &[u8], n: usize) -> u64
 }
 
 // Finds the first part whose reference stands in an earlier part. Equal references have one stem, so each pass finds those of its own range, and the
-// lowest of any pass is the first. What is kept from pass to pass costs stack: the ranges carry their own width, and half of the lowest is held against n.
+// lowest of any pass is the first. What is kept from pass to pass costs stack, so the ranges carry their own width.
 pub fn first_repeated(t: &[u8]) -> Option<usize>
     ensures { result ≡ first_to (repeated (circuit_at t.now)) (2 * circuits t.now) }
 {
-    let n = table::count(t);
-    let mut lowest = 2 * n;
-    let mut stems = 0..share(t, n);
+    let mut first: Option<usize> = None;
+    let mut stems = 0..share(t);
+    // A `for` over numbered passes was tried: the check then takes 24 octets of stack more, and misses the bar of 336 (docs/BENCHMARK.md).
     while stems.start < STEMS {
-        lowest = lowest.min(pass(t, n, &stems));
+        if let Some(part) = pass(t, &stems) {
+            first = Some(part.min(first.unwrap_or(part)));
+        }
         stems = stems.end..stems.end + (stems.end - stems.start);
     }
-    if lowest / 2 < n { Some(lowest) } else { None }
+    first
 }

@@ -1,34 +1,27 @@
--- The lowest of all passes is the first that is repeated, where it is a part's number at all.
-use Rattle.std.proofs.Common.{◌*◌, sym, arith}
-use Rattle.rules.specs.Valid.{repeated}
+-- The lowest of all passes is the first that is repeated.
+use Rattle.std.proofs.Common.{◌≡◌, ◌*◌, min, sym, ap, ◌∙◌, subst, arith, rules}
+use Rattle.std.specs.Prelude.{None}
 use Rattle.rules.specs.Records.{circuit_at, circuits}
-use Rattle.rules.proofs.Searches.{first_of, first_none}
-use Rattle.references.proofs.Passes.{sift_more, sifted_all}
+use Rattle.references.proofs.Passes.{Sifted, sift_part, sift_nothing, sifted_all}
 use Rattle.references.proofs.first_repeated.Goals as goal
+use Rattle.references.proofs.first_repeated.Goals.{in-Some, in_default}
 
 pub loop-stems-preserved : goal.loop-stems-preserved
 loop-stems-preserved c =
-    let at = c.loop-stems in (
-      omega (arith, at.invariant.0),
-      omega (arith, at.invariant.0, at.invariant.1),
-      sift_more (circuit_at c.args.t.now) _ at.stems.start at.stems.end at.lowest at.invariant.2 c.pass.ensures c.min-lowest.ensures,
-    )
-
-pub returns-then-lowest-n : goal.returns-then-lowest-n
-returns-then-lowest-n c =
-    let t = c.args.t.now in
+    let x = circuit_at c.args.t.now in
+    let m = 2 * circuits c.args.t.now in
     let at = c.loop-stems in
-    let counted = c.count-n.ensures in
-    let s = at.invariant.2 in
-    sym
-    (first_of (repeated (circuit_at t)) (2 * circuits t) at.lowest (omega arith)
-    (sifted_all (circuit_at t) _ at.stems.start at.lowest c.loop-stems-test.false s) (s.there (omega arith)))
+    let from = at.stems.start in
+    let to = at.stems.end in
+    let sifted : Sifted x m to c.match-pass.first = elim c.match-pass.branch [
+      | in-Some w ↦
+          subst (Sifted x m to) (sym w.first-is)
+          (sift_part x m from to c.pass.ensures w.in-Some.is at.first at.invariant.2 (w.min.ensures ∙ ap (min w.in-Some.part) w.unwrap_or.ensures))
+      | in_default w ↦
+          let none : c.pass.result ≡ None = search rules in
+          subst (Sifted x m to) (sym w.first-is) (sift_nothing x m from to c.pass.ensures none at.invariant.2)
+    ] in
+    (omega (arith, at.invariant.0), omega (arith, at.invariant.0, at.invariant.1), sifted)
 
-pub returns-else-lowest-n : goal.returns-else-lowest-n
-returns-else-lowest-n c =
-    let t = c.args.t.now in
-    let at = c.loop-stems in
-    let counted = c.count-n.ensures in
-    sym
-    (first_none (repeated (circuit_at t)) (2 * circuits t)
-    (λ j l. sifted_all (circuit_at t) _ at.stems.start at.lowest c.loop-stems-test.false at.invariant.2 j (omega arith)))
+pub returns : goal.returns
+returns c = sifted_all (circuit_at c.args.t.now) _ c.loop-stems.stems.start c.loop-stems-test.false c.loop-stems.first c.loop-stems.invariant.2

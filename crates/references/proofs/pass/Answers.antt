@@ -1,9 +1,9 @@
 -- The holder or the reservation of the circuit repeats, or the loop goes on, or none repeated.
 use Rattle.std.proofs.Common.{◌≡◌, ℕ, ◌+◌, ◌*◌, Bool, false, sym, ap, ◌∙◌, subst, arith, add-zero, below_more}
 use Rattle.rules.specs.declared.circuit.Circuit.{Circuit}
-use Rattle.rules.specs.Records.{circuit_at}
+use Rattle.rules.specs.Records.{circuit_at, circuits}
 use Rattle.references.specs.Filter.{repeated_in, Seen}
-use Rattle.references.proofs.Passes.{lowest_at, lowest-none}
+use Rattle.rules.proofs.Searches.{first_of, first_none}
 use Rattle.references.proofs.pass.Goals as goal
 
 -- what the note on part k said, of the part by its other number
@@ -14,8 +14,10 @@ pub returns-then-note : goal.returns-then-note
 returns-then-note c =
     let a = c.args in
     let i = c.loop-number.number in
-    lowest_at (repeated_in a.stems.now.start a.stems.now.end (circuit_at a.t.now)) (2 * a.n) (2 * i) (omega arith) c.loop-number.invariant.0
-    (said (circuit_at a.t.now) a.stems.now.start a.stems.now.end (add-zero (2 * i)) c.note.ensures.twice c.if-note.true)
+    let n = c.count-number-end.ensures in
+    sym
+    (first_of (repeated_in a.stems.now.start a.stems.now.end (circuit_at a.t.now)) (2 * circuits a.t.now) (2 * i) (omega arith) c.loop-number.invariant.0
+    (said (circuit_at a.t.now) a.stems.now.start a.stems.now.end (add-zero (2 * i)) c.note.ensures.twice c.if-note.true))
 
 pub returns-then-note-2 : goal.returns-then-note-2
 returns-then-note-2 c =
@@ -23,7 +25,8 @@ returns-then-note-2 c =
     let x = circuit_at a.t.now in
     let i = c.loop-number.number in
     let past = below_more (λ (j : ℕ). repeated_in a.stems.now.start a.stems.now.end x j ≡ false) (2 * i) c.loop-number.invariant.0 (said x a.stems.now.start a.stems.now.end (add-zero (2 * i)) c.note.ensures.twice c.if-note.false) in
-    lowest_at (repeated_in a.stems.now.start a.stems.now.end x) (2 * a.n) (2 * i + 1) (omega arith) past (sym c.note-in-loop-number.ensures.twice ∙ c.if-note-2.true)
+    let n = c.count-number-end.ensures in
+    sym (first_of (repeated_in a.stems.now.start a.stems.now.end x) (2 * circuits a.t.now) (2 * i + 1) (omega arith) past (sym c.note-in-loop-number.ensures.twice ∙ c.if-note-2.true))
 
 pub loop-number-preserved : goal.loop-number-preserved
 loop-number-preserved c =
@@ -39,4 +42,5 @@ loop-number-preserved c =
 pub returns : goal.returns
 returns c =
     let a = c.args in
-    lowest-none (repeated_in a.stems.now.start a.stems.now.end (circuit_at a.t.now)) (2 * a.n) (λ j l. c.loop-number.invariant.0 j (omega arith))
+    let n = c.count-number-end.ensures in
+    sym (first_none (repeated_in a.stems.now.start a.stems.now.end (circuit_at a.t.now)) (2 * circuits a.t.now) (λ j l. c.loop-number.invariant.0 j (omega arith)))
