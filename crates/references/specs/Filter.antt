@@ -54,10 +54,6 @@ pub record Seen (x : ℕ → Circuit) (from to : ℕ) (w : List ℕ) (j : ℕ) :
 abbrev pub repeated_in : ℕ → ℕ → (ℕ → Circuit) → ℕ → Bool
 repeated_in from to x k = in_range from to (part_numbered x k).reference && repeated x k
 
--- the lowest number below m of which f holds; where there is none, m
-abbrev pub lowest_to : (ℕ → Bool) → ℕ → ℕ
-lowest_to f m = found (first_to f m) (λ k. k) m
-
 -- the call with reference r stands in one of the first n parts
 unfoldable pub stands_to : (ℕ → Circuit) → List ℕ → ℕ → Bool
 stands_to x r n = found (first_to (λ k. is_of r (part_numbered x k)) n) (λ k. true) false
