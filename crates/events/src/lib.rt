@@ -3,6 +3,7 @@
 #![tactic(auto)]
 
 ghost use Rattle.std.specs.Prelude.{◌≡◌, ◌+◌, ◌*◌, ◌≤◌, length};
+ghost use Rattle.std.specs.Bool.{then_some};
 ghost use Rattle.octets.specs.Span.{span, put};
 ghost use Rattle.rules.specs.Records.{event_size, event_in, mark_in, reference_in, event_at, answer_size, answer_octets, answer_in, answer_number, answer_cause, answer_detail, lost_call, lost_reservation, is_lost, lost_reference};
 
@@ -141,4 +142,11 @@ pub fn lost_reference(lost: Lost) -> Reference
     ensures { result ≡ lost_reference lost }
 {
     octets::read(&lost, 1)
+}
+
+// Gives the reference of a party in an answer, if it was lost.
+pub fn lost(party: Lost) -> Option<Reference>
+    ensures { result ≡ then_some (is_lost party) (lost_reference party) }
+{
+    is_lost(party).then_some(lost_reference(party))
 }

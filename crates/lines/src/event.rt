@@ -36,10 +36,9 @@ fn named(text: &mut Text, v: Reference)
 fn party(text: &mut Text, lost: Lost)
     ensures { text.new ≡ extended text.old (field (rule.party lost)) }
 {
-    if events::is_lost(lost) {
-        named(text, Reference::from(events::lost_reference(lost)));
-    } else {
-        text.put(b" -");
+    match events::lost(lost) {
+        Some(reference) => named(text, Reference::from(reference)),
+        None => text.put(b" -"),
     }
 }
 

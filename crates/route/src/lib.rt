@@ -32,7 +32,8 @@ impl From<WrongLength> for u8 {
 
 // Applies event k to a table, writes its answer as answer k, and gives the level under which a holder stood that was lost, which no answer has.
 // The verdict on the table is known. The answer names the losers, so it is made of the table as it was; each step reads the circuit that it
-// needs anew, since the compiler then keeps none in memory.
+// needs anew, since the compiler then keeps none in memory. The buffers are passed one by one, since of those lent to be written a struct would
+// have to say in each clause what the caller's end as.
 pub fn apply(t: &mut [u8], es: &[u8], answers: &mut [u8], k: usize, verdict: Verdict) -> Level
     requires t_bound { circuits t.old ≤ most_circuits }
     requires event_size_in_bounds { event_size * k + event_size ≤ length es.now }
