@@ -1,7 +1,6 @@
 // This module takes a pair of files, a table and its events, by the names that the program's arguments give them.
-ghost use Rattle.std.specs.Prelude.{◌+◌, ◌*◌, ◌≤◌, length};
+ghost use Rattle.std.specs.Prelude.{◌+◌, ◌*◌, ◌≤◌};
 ghost use Rattle.tally.specs.Entry.{most_lists};
-ghost use Rattle.figures.specs.Output.{Sized};
 
 use crate::lists::{Sheet, TooMany};
 use crate::pair;

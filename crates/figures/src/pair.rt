@@ -1,7 +1,6 @@
 // This module applies the events of one input to one table, and counts the holders of the table before them and after them.
-ghost use Rattle.std.specs.Prelude.{◌≤◌, length};
+ghost use Rattle.std.specs.Prelude.{◌≤◌};
 ghost use Rattle.rules.specs.Records.{most_circuits};
-ghost use Rattle.figures.specs.Output.{Sized};
 
 use crate::lists::{Sheet, TooMany};
 use std::io::Read;

@@ -206,6 +206,7 @@ fn checked(rt: &HostRuntime, n: usize, buffer: &[u8]) -> Result<usize, Reported>
 }
 
 // Reads the table from its file and gives its length. Where there is none, or the check refuses it, the only line says so.
+// A length comes and no slice, since `Checked` speaks of the buffer, and no clause says what a lent slice ends as in an `Ok`.
 pub fn table(rt: &HostRuntime, buffer: &mut [u8]) -> Result<usize, Reported>
     ensures table { IfOk result (Checked buffer.new) }
     ensures valid { IfOk result (λ n. check_number (take n buffer.new) ≡ done) }

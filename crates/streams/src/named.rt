@@ -52,7 +52,7 @@ pub fn count(rt: &HostRuntime) -> usize {
 }
 
 // Puts argument i into the buffer and gives its length. One that is too long is cut to the buffer's length: no file of that name is opened
-// where the buffer is longer than a path may be.
+// where the buffer is longer than a path may be. One that is not there is an empty name, since this may not fail where it did not.
 pub fn name(rt: &HostRuntime, i: usize, buffer: &mut [u8]) -> usize
     ensures { IsPrefixLen result buffer.new }
 {
