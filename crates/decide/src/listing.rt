@@ -19,7 +19,8 @@ pub fn space() -> [u8; ROOM]
     [0; ROOM]
 }
 
-// Gives the number of events that are answered after a full list, where `before` were answered before it.
+// Gives the number of events that are answered after a full list, where `before` were answered before it. The bound on `before` is asked at each
+// step: a type for it would hold one number, and would be taken apart wherever a line is numbered.
 pub fn numbered_on(before: u64) -> u64
     requires { before < last_number }
     ensures { result ≡ before + most_events }

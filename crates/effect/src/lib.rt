@@ -14,7 +14,7 @@ use rules::event::Event;
 use rules::outcome::{Act, Deed, Outcome};
 use table::Record;
 
-// Makes circuit i anew by an act, and writes it whole.
+// Makes circuit i anew by an act, and writes it whole. What writes takes the table and a place, and no `Record`, as in `table`.
 fn renew(t: &mut [u8], e: Event, a: Act, i: usize)
     requires { i < circuits t.old }
     ensures { t.new ≡ put_circuit t.old i (made e a (circuit_at t.old i)) }

@@ -11,7 +11,7 @@ use rules::number;
 use rules::verdict::Check;
 use table::Record;
 
-// This is what the panel gets: the check's number and detail, how many lamps are lit, and the lamps.
+// This is what C and the panel get: the check's number and detail, how many lamps are lit, and the lamps.
 #[repr(C)]
 #[derive(Clone, Copy)]
 pub struct Lamps {

@@ -1,4 +1,5 @@
-// These are the entries of the product, each of which but the version only calls another. C and Rust link them under the same names, by naustvri_c.
+// These are the entries of the product, each of which but the version only calls another. C and Rust link them under the same names, by naustvri_c,
+// and get what C can: numbers for refusals, and structs of its layout.
 
 #![tactic(auto)]
 

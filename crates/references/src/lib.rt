@@ -171,7 +171,7 @@ pub fn first_repeated(t: &[u8]) -> Option<usize>
 {
     let mut first: Option<usize> = None;
     let mut stems = 0..share(t);
-    // A `for` over numbered passes was tried: the check then takes 24 octets of stack more, and misses the bar of 336 (docs/BENCHMARK.md).
+    // A `for` over numbered passes was tried: it takes 24 octets of stack more, with which a list misses its bound of 448 (docs/DECISIONS.md).
     while stems.start < STEMS {
         if let Some(part) = pass(t, &stems) {
             first = Some(part.min(first.unwrap_or(part)));

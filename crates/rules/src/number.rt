@@ -1,5 +1,5 @@
 // These are the numbers given back: first those of what is accepted, then the refusals in the order in which they are tried. The writer of an
-// optional part alone tries 63 after 22.
+// optional part alone tries 63 after 22. They are numbers and no enum, since C gets them (include/naustvri.h); each enum of refusals gives its own by From.
 
 // The list was carried out, the table is valid, or the field or optional part was read or written.
 pub const DONE: u8 = 0;

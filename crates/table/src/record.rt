@@ -68,7 +68,7 @@ impl<'a> Record<'a> {
     fn level_on(self, side: Side) -> Level
         ensures { result ≡ (part_on side (circuit_in self.entry)).mark.level }
     {
-        Level::in_record(self.octet(start(side) + LEVEL))
+        Level(self.octet(start(side) + LEVEL))
     }
 
     // Reads the mark of the part on a side.

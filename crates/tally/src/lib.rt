@@ -86,7 +86,8 @@ fn step(t: &mut [u8], es: &[u8], places: &mut [u8], totals: &mut Totals, k: usiz
     totals::count(totals, e.kind, e.mark.level, events::number(answer), lost);
 }
 
-// Applies the first n events one after another, and counts each. The table was looked at once, before them.
+// Applies the first n events one after another, and counts each. The table was looked at once, before them. It is a loop beside that of `route`, and
+// not one with a closure: a closure that changes the totals would have to say in its own contract all that `step` says in its.
 fn each(t: &mut [u8], es: &[u8], places: &mut [u8], totals: &mut Totals, n: usize, verdict: Verdict)
     requires t_bound { circuits t.old ≤ most_circuits }
     requires events_in_bounds { event_size * n ≤ length es.now }

@@ -89,7 +89,8 @@ fn count_lost(totals: &mut Totals, taker: Level, lost: Option<Level>)
     }
 }
 
-// Counts an event of this kind and level that was answered by this number; `lost` is the level under which a holder stood that was lost by it.
+// Counts an event of this kind and level that was answered by this number; `lost` is the level under which a holder stood that was lost by it. Kind
+// and number are octets, by which `adds` (tally/specs/Shares) and the claims on figures speak of them.
 pub fn count(totals: &mut Totals, kind: u8, taker: Level, number: u8, lost: Option<Level>)
     requires has_room_for { HasRoomFor 1 totals.old }
     requires number_bound { number < 64 }

@@ -179,7 +179,8 @@ fn judged(r: Record) -> u64
 }
 
 // Gives the code of a fault: 8 times its record and the last digit of its reason's number. A valid table has the code 0. Inside this crate a
-// verdict goes by its code, since the compiler gives an enum back through memory, which costs every caller's stack.
+// verdict goes by its code. It was tried as a Result from the record up: the compiler gives that back through memory, and a list then takes 456
+// octets of stack, over its bound of 448 (docs/DECISIONS.md).
 fn code(digit: u64, i: usize) -> u64
     requires { 8 * i + digit < 2 ^ 64 }
     ensures { result ≡ 8 * i + digit }

@@ -9,7 +9,7 @@ use rules::verdict::Check;
 
 // Writes the circuit that a call of some level and domain gets.
 fn chosen(page: Page, row: &Row, t: &[u8]) {
-    let level = Level::in_record(row.first());
+    let level = Level(row.first());
     let domain = row.part(1);
     page.found(choice::choose(t, Mark { level, domain }));
 }

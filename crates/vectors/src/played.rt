@@ -16,7 +16,8 @@ const ROOM: usize = EVENT_SIZE * PLAYED;
 // The last event that a scene plays starts before this octet.
 const STARTS: usize = EVENT_SIZE * (PLAYED - 1) + 1;
 
-// These are the events played one by one, and their answers, which have as many octets: the first `length` of their rooms.
+// These are the events played one by one, and their answers, which have as many octets: the first `length` of their rooms. The rooms stay whole, since
+// a list may be told to go on behind the events played.
 #[derive(Drop)]
 pub struct Played {
     events: [u8; ROOM],

@@ -4,7 +4,8 @@ use table::{CIRCUIT_SIZE, MOST_CIRCUITS};
 // A table has room for one more circuit than a table may have.
 pub const ROOM: usize = CIRCUIT_SIZE * (MOST_CIRCUITS + 1);
 
-// This is a table of `length` octets, or of all that its room has where these are fewer.
+// This is a table of `length` octets, or of all that its room has where these are fewer. The room stays whole, since the script's answer compares the
+// octets behind the table too; and with a ghost bound on `length` the borrow of a part of it to be written got no proof.
 #[derive(Clone, Copy, PartialEq, Eq)]
 pub struct Table {
     room: [u8; ROOM],
