@@ -100,12 +100,8 @@ fn removed(t: &[u8], clock: u32) -> u16
     ensures { result ≡ count_to (λ i. overdue clock (circuit_at t.now i)) (circuits t.now) }
 {
     let mut k: u16 = 0;
-    for i in 0..table::count(t) {
-        k += u16::from(Record {
-            table: t,
-            number: i,
-        }
-        .overdue(clock));
+    for number in 0..table::count(t) {
+        k += u16::from(Record { table: t, number }.overdue(clock));
     }
     k
 }
@@ -119,16 +115,10 @@ pub fn answered(t: &[u8], e: Event, o: Outcome) -> Answer
 {
     match o {
         Err(refusal) => no_loser(u8::from(refusal), refusal.detail()),
-        Ok(Deed::Do(a, i)) => acted(
-            e,
-            a,
-            i as u16,
-            Record {
-                table: t,
-                number: i,
-            }
-            .circuit(),
-        ),
+        Ok(Deed::Do(a, number)) => {
+            let circuit = Record { table: t, number }.circuit();
+            acted(e, a, number as u16, circuit)
+        }
         Ok(Deed::Clock) => no_loser(number::CLOCK_TAKEN, removed(t, e.clock)),
     }
 }

@@ -48,24 +48,15 @@ fn stands_nowhere(t: &[u8], reference: Reference) -> bool
     !references::stands_below(t, table::count(t), reference)
 }
 
-// Decides a set-up by a call that has reserved circuit i.
+// Decides a set-up by a call that has reserved a circuit.
 #[tactic(auto, unfolding(rules::specs::Decision::set_up))]
-fn set_up_reserver(t: &[u8], e: Event, i: usize) -> Outcome
-    requires i_bound { i < circuits t.now }
-    requires reference_value { reserved_by (circuit_at t.now) (circuits t.now) e.reference ≡ Some i }
-    ensures { result ≡ set_up (circuit_at t.now) (circuits t.now) e }
+fn set_up_reserver(circuit: Record, e: Event) -> Outcome
+    requires { reserved_by (circuit_at circuit.table.now) (circuits circuit.table.now) e.reference ≡ Some circuit.number }
+    ensures { result ≡ set_up (circuit_at circuit.entry.table.now) (circuits circuit.entry.table.now) e }
 {
-    match choice::held_by(t, e.reference) {
+    match choice::held_by(circuit.table, e.reference) {
         Some(_) => Err(Refusal::AlreadyThere),
-        None => on_reservation(
-            e,
-            Record {
-                table: t,
-                number: i,
-            }
-            .part(Side::Reservation),
-            i,
-        ),
+        None => on_reservation(e, circuit.part(Side::Reservation), circuit.number),
     }
 }
 
@@ -76,7 +67,7 @@ fn set_up_known(t: &[u8], e: Event) -> Outcome
     ensures { result ≡ set_up (circuit_at t.now) (circuits t.now) e }
 {
     match choice::reserved_by(t, e.reference) {
-        Some(i) => set_up_reserver(t, e, i),
+        Some(number) => set_up_reserver(Record { table: t, number }, e),
         None => Err(Refusal::AlreadyThere),
     }
 }

@@ -19,12 +19,12 @@ fn renew(t: &mut [u8], e: Event, a: Act, i: usize)
     requires { i < circuits t.old }
     ensures { t.new ≡ put_circuit t.old i (made e a (circuit_at t.old i)) }
 {
-    let c = Record {
+    let record = Record {
         table: t,
         number: i,
-    }
-    .circuit();
-    table::store(t, i, c.made(e, a));
+    };
+    let c = record.circuit().made(e, a);
+    table::store(t, i, c);
 }
 
 // Carries out an act on circuit i, whose record is in order: an act that changes both parts writes the circuit whole, any
@@ -33,12 +33,11 @@ fn act(t: &mut [u8], e: Event, a: Act, i: usize)
     requires { Ready t.old (does a i) }
     ensures { t.new ≡ put_circuit t.old i (made e a (circuit_at t.old i)) }
 {
-    let c = Record {
+    let record = Record {
         table: t,
         number: i,
-    }
-    .circuit()
-    .made(e, a);
+    };
+    let c = record.circuit().made(e, a);
     // Each act has an arm of its own: joined by `|`, equal arms cost an event of a list 13 instructions more.
     match a {
         Act::Seize => table::store(t, i, c),

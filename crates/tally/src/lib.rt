@@ -55,12 +55,8 @@ pub fn holders(t: &[u8]) -> u64
     ensures most { result ≤ most_circuits }
 {
     let mut k: u64 = 0;
-    for i in 0..table::count(t) {
-        k += u64::from(Record {
-            table: t,
-            number: i,
-        }
-        .present(Side::Holder));
+    for number in 0..table::count(t) {
+        k += u64::from(Record { table: t, number }.present(Side::Holder));
     }
     k
 }

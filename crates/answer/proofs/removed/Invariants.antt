@@ -5,5 +5,5 @@ use Rattle.rules.specs.Circuit.{overdue}
 use Rattle.rules.specs.Records.{circuit_at}
 use Rattle.answer.proofs.removed.Given as goal
 
-abbrev pub invariant-loop-i : goal.invariant-loop-i
-invariant-loop-i l = (l.k ≤ l.i) × (l.k ≡ count_to (λ i. overdue l.clock (circuit_at l.t i)) l.i)
+abbrev pub invariant-loop-number : goal.invariant-loop-number
+invariant-loop-number l = (l.k ≤ l.number) × (l.k ≡ count_to (λ i. overdue l.clock (circuit_at l.t i)) l.number)

@@ -4,5 +4,5 @@ use Rattle.rules.specs.Search.{count_to}
 use Rattle.rules.specs.Records.{circuit_at}
 use Rattle.tally.proofs.holders.Given as goal
 
-abbrev pub invariant-loop-i : goal.invariant-loop-i
-invariant-loop-i l = (l.k ≤ l.i) × (l.k ≡ count_to (λ i. (circuit_at l.t i).holder.present) l.i)
+abbrev pub invariant-loop-number : goal.invariant-loop-number
+invariant-loop-number l = (l.k ≤ l.number) × (l.k ≡ count_to (λ i. (circuit_at l.t i).holder.present) l.number)
