@@ -1,3 +1,4 @@
 pub mod Orders
-pub mod Codes
 pub mod Determined
+pub mod Firsts
+pub mod Codes

@@ -1,18 +1,12 @@
 -- The code of a verdict is one number for its reason and its record.
-use Rattle.std.specs.Prelude.{ℕ, ◌+◌, ◌-◌, ◌*◌, ◌/◌, ◌%◌, cond, eqb, Ok, Err}
-use Rattle.rules.specs.declared.verdict.Check.{Check}
+use Rattle.std.specs.Prelude.{ℕ, ◌+◌, ◌-◌, ◌*◌, cond, eqb, Ok, Err}
 use Rattle.rules.specs.declared.verdict.Reason.{Reason}
 use Rattle.rules.specs.declared.verdict.Reason.TheVariants.{FlagOrLevel, DigitOrPointCode, NotZero, NotAbove, Repeated}
 use Rattle.rules.specs.Verdict.{Verdict}
-use Rattle.rules.specs.Numbers.{done, reason_number}
-use Rattle.rules.specs.Answer.{no_detail}
+use Rattle.rules.specs.Numbers.{reason_number}
 
 abbrev pub reason_digit : Reason → ℕ  -- the last digit of a reason's number
 reason_digit r = reason_number r - 40
-
-unfoldable pub digit_of : Verdict → ℕ  -- the digit of a fault's reason, or 0
-digit_of (Ok u) = 0
-digit_of (Err flaw) = reason_digit flaw.reason
 
 unfoldable pub code_of : Verdict → ℕ  -- 0 for a valid table, else 8 times the record and the digit of the reason
 code_of (Ok u) = 0
@@ -22,6 +16,3 @@ unfoldable pub reason_of : ℕ → Reason  -- the reason whose number has this l
 reason_of d =
     cond (eqb d 1) FlagOrLevel
     (cond (eqb d 2) DigitOrPointCode (cond (eqb d 3) NotZero (cond (eqb d 4) NotAbove Repeated)))
-
-abbrev pub check_coded : ℕ → Check  -- what the check gives for a verdict with this code
-check_coded k = cond (eqb k 0) (record { number = done; detail = no_detail }) (record { number = 40 + k % 8; detail = k / 8 })

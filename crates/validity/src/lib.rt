@@ -3,15 +3,16 @@
 
 #![tactic(auto)]
 
-ghost use Rattle.std.specs.Prelude.{◌≡◌, ◌&&◌, ◌+◌, ◌*◌, ◌^◌, ◌<◌};
+ghost use Rattle.std.specs.Prelude.{◌≡◌, ◌&&◌};
 ghost use Rattle.rules.specs.Fields.{point_code_ok};
 ghost use Rattle.rules.specs.Valid.{if_present, held_under, reserved_under, levels_ok, fields_ok, pair_ok, record_verdict, records_to, parts_to};
 ghost use Rattle.rules.specs.Valid as rule;
-ghost use Rattle.rules.specs.Records.{circuit_at, circuits, flags_at, first_octets, records, checked};
+ghost use Rattle.rules.specs.Verdict.{fault};
+ghost use Rattle.rules.specs.Records.{circuits, flags_at, first_octets, records, checked};
 ghost use Rattle.table.specs.Record.{circuit_in};
 ghost use Rattle.validity.specs.Order.{fields_fit, part_in_order, rings_in_order, after_holder, in_order};
 ghost use Rattle.validity.specs.Order as order;
-ghost use Rattle.validity.specs.Code.{reason_digit, digit_of, code_of, reason_of, check_coded};
+ghost use Rattle.validity.specs.Code.{reason_digit, code_of, reason_of};
 
 use rules::answer::NO_DETAIL;
 use rules::circuit::Circuit;
@@ -93,31 +94,34 @@ fn flags_and_levels(r: Record) -> bool
     r.flags() && levels_ok(r)
 }
 
-// Gives the last digit of a reason's number.
-fn digit(reason: Reason) -> u64
-    ensures { result ≡ reason_digit reason }
+// Gives the verdict that a record has a fault, for this reason.
+fn fault(r: Record, reason: Reason) -> Verdict
+    ensures { result ≡ fault reason r.entry.number }
 {
-    u64::from(u8::from(reason) - 40)
+    Err(Fault {
+        reason,
+        at: r.number,
+    })
 }
 
-// Gives the last digit of the number of the first reason that applies to a record by itself, or 0 where none does.
-#[tactic(auto, unfolding(rules::specs::Valid::record_verdict, rules::specs::Records::records, crate::specs::Code::digit_of))]
-fn first_reason(r: Record) -> u64
-    ensures { result ≡ digit_of (record_verdict records r.entry.table.now r.entry.number) }
+// Gives the verdict on a record by itself, by the first reason that applies to it.
+#[tactic(auto, unfolding(rules::specs::Valid::record_verdict, rules::specs::Records::records))]
+fn by_reasons(r: Record) -> Verdict
+    ensures { result ≡ record_verdict records r.entry.table.now r.entry.number }
 {
     if !flags_and_levels(r) {
-        return digit(Reason::FlagOrLevel);
+        return fault(r, Reason::FlagOrLevel);
     }
     if !fields_ok(r) {
-        return digit(Reason::DigitOrPointCode);
+        return fault(r, Reason::DigitOrPointCode);
     }
     if !r.blank() {
-        return digit(Reason::NotZero);
+        return fault(r, Reason::NotZero);
     }
     if !pair_ok(r.circuit()) {
-        return digit(Reason::NotAbove);
+        return fault(r, Reason::NotAbove);
     }
-    0
+    Ok(())
 }
 
 // Tells whether a part that is present is fit by itself: its level is one of the five, and its digits and its spare bits are right.
@@ -171,56 +175,63 @@ fn in_order(r: Record) -> bool
     holder_in_order(r) && after_holder(r)
 }
 
-// Gives what `first_reason` gives of a record. A holder under no precedence is not in order, and it is for `first_reason` to find nothing there.
-fn judged(r: Record) -> u64
-    ensures { result ≡ digit_of (record_verdict records r.entry.table.now r.entry.number) }
+// Gives what `by_reasons` gives of a record. A holder under no precedence is not in order, and it is for `by_reasons` to find nothing there.
+fn judged(r: Record) -> Verdict
+    ensures { result ≡ record_verdict records r.entry.table.now r.entry.number }
 {
-    if in_order(r) { 0 } else { first_reason(r) }
+    if in_order(r) { Ok(()) } else { by_reasons(r) }
 }
 
-// Gives the code of a fault: 8 times its record and the last digit of its reason's number. A valid table has the code 0. Inside this crate a
-// verdict goes by its code. It was tried as a Result from the record up: the compiler gives that back through memory, and a list then takes 456
-// octets of stack, over its bound of 448 (docs/DECISIONS.md).
-fn code(digit: u64, i: usize) -> u64
-    requires { 8 * i + digit < 2 ^ 64 }
-    ensures { result ≡ 8 * i + digit }
-{
-    8 * i as u64 + digit
-}
-
-// Gives the code of the verdict on the records, each by itself: it is that on the lowest that has a fault.
-fn each_record(t: &[u8]) -> u64
-    ensures { result ≡ code_of (records_to records t.now (circuits t.now)) }
+// Gives the verdict on the records, each by itself: it is that on the lowest that has a fault.
+fn each_record(t: &[u8]) -> Verdict
+    ensures { result ≡ records_to records t.now (circuits t.now) }
 {
     for number in 0..table::count(t) {
-        let found = judged(Record { table: t, number });
-        if found != 0 {
-            return code(found, number);
-        }
+        judged(Record { table: t, number })?;
     }
-    0
+    Ok(())
 }
 
-// Gives the code of the verdict on the references: the first that stands in an earlier part is a fault.
-#[tactic(auto, unfolding(rules::specs::Records::records, crate::specs::Code::code_of))]
-fn each_reference(t: &[u8]) -> u64
-    ensures { result ≡ code_of (parts_to records t.now (circuits t.now)) }
+// Gives the verdict on the references: the first that stands in an earlier part is a fault.
+#[tactic(auto, unfolding(rules::specs::Records::records))]
+fn each_reference(t: &[u8]) -> Verdict
+    ensures { result ≡ parts_to records t.now (circuits t.now) }
 {
     match references::first_repeated(t) {
-        Some(k) => code(digit(Reason::Repeated), k / 2),
-        None => 0,
+        Some(part) => Err(Fault {
+            reason: Reason::Repeated,
+            at: part / 2,
+        }),
+        None => Ok(()),
     }
 }
 
-// Finds the first fault of the table, by its code: first in a record by itself, then in the references.
-fn fault(t: &[u8]) -> u64
+// Finds the first fault of the table: first in a record by itself, then in the references.
+#[tactic(auto, unfolding(rules::specs::Valid::verdict, rules::specs::Records::records))]
+fn first_fault(t: &[u8]) -> Verdict
+    ensures { result ≡ rule.verdict records t.now }
+{
+    each_record(t)?;
+    each_reference(t)
+}
+
+// Gives the last digit of a reason's number.
+fn digit(reason: Reason) -> u64
+    ensures { result ≡ reason_digit reason }
+{
+    u64::from(u8::from(reason) - 40)
+}
+
+// Gives the code of the verdict on a table: 0 for a valid one, else 8 times the record of the first fault and the last digit of its reason's number.
+// Every entry that checks takes the verdict from here, and by its code: the compiler gives a Result back through memory, and a list then takes
+// 456 octets of stack, over its bound of 448 (docs/DECISIONS.md).
+fn coded(t: &[u8]) -> u64
     ensures { result ≡ code_of (rule.verdict records t.now) }
 {
-    let found = each_record(t);
-    if found != 0 {
-        return found;
+    match first_fault(t) {
+        Ok(()) => 0,
+        Err(fault) => 8 * fault.at as u64 + digit(fault.reason),
     }
-    each_reference(t)
 }
 
 // Gives the reason whose number has this last digit.
@@ -241,7 +252,7 @@ fn reason(digit: u64) -> Reason
 pub fn verdict(t: &[u8]) -> Verdict
     ensures { result ≡ rule.verdict records t.now }
 {
-    let code = fault(t);
+    let code = coded(t);
     if code == 0 {
         Ok(())
     } else {
@@ -249,23 +260,6 @@ pub fn verdict(t: &[u8]) -> Verdict
             reason: reason(code % 8),
             at: (code / 8) as usize,
         })
-    }
-}
-
-// Gives what the check returns for the code of a verdict on a table of right length.
-fn check_of(code: u64) -> Check
-    requires { code < 8 * 65536 }
-    ensures { result ≡ check_coded code }
-{
-    if code == 0 {
-        return Check {
-            number: number::DONE,
-            detail: NO_DETAIL,
-        };
-    }
-    Check {
-        number: 40 + (code % 8) as u8,
-        detail: (code / 8) as u16,
     }
 }
 
@@ -279,5 +273,14 @@ pub fn check(t: &[u8]) -> Check
             detail: NO_DETAIL,
         };
     }
-    check_of(fault(t))
+    match verdict(t) {
+        Ok(()) => Check {
+            number: number::DONE,
+            detail: NO_DETAIL,
+        },
+        Err(fault) => Check {
+            number: u8::from(fault.reason),
+            detail: fault.at as u16,
+        },
+    }
 }

@@ -1,10 +1,11 @@
--- The length, then the code.
-use Rattle.std.proofs.Common.{ℕ, ◌*◌, ◌<◌, sym, ap, subst, ◌∙◌}
+-- The length, then the verdict.
+use Rattle.std.proofs.Common.{◌≤◌, sym, ap, subst, ◌∙◌, arith}
 use Rattle.octets.proofs.Tests.{ways, if_true}
+use Rattle.rules.specs.Verdict.{Verdict}
+use Rattle.rules.specs.Answer.{no_detail}
+use Rattle.rules.specs.Valid.{check_of}
 use Rattle.rules.specs.Records.{checked}
 use Rattle.rules.proofs.Check.{length_facts, detail-fits}
-use Rattle.validity.specs.Code.{check_coded}
-use Rattle.validity.proofs.Codes.{code_below, check_back}
 use Rattle.validity.proofs.check.Goals as goal
 
 pub returns-then-not-right_length : goal.returns-then-not-right_length
@@ -12,17 +13,25 @@ unfolding checked
 returns-then-not-right_length c = record { reading = search ways }
 
 -- the first fault names a record of the table
-pub check_of-requires : goal.check_of-requires
-check_of-requires c =
-    let t = c.args.t.now in
+pub overflow_cast-result : goal.overflow_cast-result
+overflow_cast-result c =
     let right = sym c.right_length.ensures ∙ c.if-not-right_length.false in
-    subst (λ (k : ℕ). k < 8 * 65536) (sym c.fault.ensures) (code_below _ (detail-fits t (length_facts _ right).2))
+    let room =
+    subst (λ (v : Verdict). (check_of v).detail ≤ no_detail) (sym c.verdict.ensures ∙ c.in-Err.is)
+    (detail-fits c.args.t.now (length_facts _ right).2)
+    in
+    record { fits = omega arith }
 
-pub returns : goal.returns
+pub returns-in-Ok : goal.returns-in-Ok
 unfolding checked
-returns c =
+returns-in-Ok c =
+    record { reading = if_true _ _ _ c.right_length.ensures c.if-not-right_length.false (ap check_of (sym c.in-Ok.is ∙ c.verdict.ensures)) }
+
+pub returns-in-Err : goal.returns-in-Err
+unfolding checked
+returns-in-Err c =
     record {
       reading =
           if_true _ _ _ c.right_length.ensures c.if-not-right_length.false
-          (c.check_of.ensures ∙ ap check_coded c.fault.ensures ∙ check_back _);
+          ((λ i. record { number = c.from.ensures i; detail = c.in-Err.fault.at }) ∙ ap check_of (sym c.in-Err.is ∙ c.verdict.ensures));
     }

@@ -12,9 +12,9 @@ said : {code : ℕ} {w : Verdict} → code ≡ code_of w → {v : Verdict} → v
 said {w = w} h e = e ∙ ap verdict_of h ∙ verdict_back w
 
 pub returns-then-code-eq0 : goal.returns-then-code-eq0
-returns-then-code-eq0 c = said c.fault-code.ensures (search ways)
+returns-then-code-eq0 c = said c.coded-code.ensures (search ways)
 
 pub returns-else-code-eq0 : goal.returns-else-code-eq0
 returns-else-code-eq0 c =
-    let r = ap (λ (r : Reason). fault r (c.fault-code.result / 8)) c.reason.ensures in
-    said c.fault-code.ensures (search ways)
+    let r = ap (λ (r : Reason). fault r (c.coded-code.result / 8)) c.reason.ensures in
+    said c.coded-code.ensures (search ways)
