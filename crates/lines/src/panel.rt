@@ -1,5 +1,5 @@
 // This module draws the lamp map as a person at a terminal sees it.
-ghost use Rattle.std.specs.Prelude.{◌≡◌, ◌≤◌, ◌%◌, get_or, eqb};
+ghost use Rattle.std.specs.Prelude.{◌≡◌, ◌≤◌, ◌%◌, eqb};
 ghost use Rattle.lines.specs.Text.{Written};
 ghost use Rattle.lines.specs.Extended.{extended};
 ghost use Rattle.lines.specs.Panel as rule;

@@ -39,7 +39,7 @@ impl From<Refused> for Fault {
     ghost from_gives = { λ _ fault. fault ≡ Malformed };
 
     fn from(_why: Refused) -> Fault {
-        Fault::Malformed
+        Self::Malformed
     }
 }
 

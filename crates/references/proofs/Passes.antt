@@ -26,9 +26,6 @@ pub record Sifted (x : ℕ → Circuit) (m from : ℕ) (r : Option ℕ) : Type 0
   pub before : (j : ℕ) → j < found r (λ k. k) m → stem (part_numbered x j).reference < from → repeated x j ≡ false
 
 module _ (x : ℕ → Circuit) (m : ℕ) where
-  pub sifted_none : Sifted x m 0 None
-  sifted_none = record { there = tt; before = λ j l h. absurd (omega arith) }
-
   module _ (from to : ℕ) where
     -- a part that is in range is not repeated where the pass finds nothing up to it
     sifted_part : {r : Option ℕ} (j : ℕ) → Sifted x m from r → j < found r (λ k. k) m → repeated_in from to x j ≡ false → stem (part_numbered x j).reference < to → repeated x j ≡ false

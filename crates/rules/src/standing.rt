@@ -1,6 +1,6 @@
 // The standing of a circuit is all that the choice asks of it: whether it is held, whether it is reserved, whether its holder may lose it,
 // and the mark that stands.
-ghost use Rattle.std.specs.Prelude.{◌≡◌, ◌+◌, ◌*◌, ◌<◌, not, ◌&&◌, ◌||◌, if◌then◌else◌};
+ghost use Rattle.std.specs.Prelude.{◌≡◌, ◌+◌, ◌*◌, not, ◌&&◌, ◌||◌, if◌then◌else◌};
 ghost use Rattle.rules.specs.Fields.{level_ok};
 ghost use Rattle.rules.specs.Circuit.{outranks};
 

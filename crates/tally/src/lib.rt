@@ -4,15 +4,14 @@
 
 pub mod totals;
 
-ghost use Rattle.std.specs.Prelude.{◌≡◌, ◌&&◌, ◌+◌, ◌*◌, ◌/◌, ◌≤◌, length, eqb};
+ghost use Rattle.std.specs.Prelude.{◌≡◌, ◌+◌, ◌*◌, ◌/◌, ◌≤◌, length};
 ghost use mathlib.Core.List.{flatten};
 ghost use Rattle.octets.specs.Span.{put};
 ghost use Rattle.rules.specs.Valid as table;
 ghost use Rattle.rules.specs.Run.{after, answered, answer_record, run, answer_records};
-ghost use Rattle.rules.specs.Records.{circuits, most_circuits, most_events, table_length, event_size, event_in, event_at, answer_size, list_length, records};
+ghost use Rattle.rules.specs.Records.{circuits, most_circuits, most_events, event_size, event_in, event_at, answer_size, records};
 ghost use Rattle.route.specs.Entries.{events_to};
-ghost use Rattle.tally.specs.Places as place;
-ghost use Rattle.tally.specs.Shares.{one, shares, holders, events_add, list_adds};
+ghost use Rattle.tally.specs.Shares.{shares, holders, events_add, list_adds};
 ghost use Rattle.tally.specs.Room.{HasRoomFor};
 ghost use Rattle.tally.specs.Entry.{added, number_of, figures_number, figures_table, figures_answers, figures_totals};
 

@@ -2,7 +2,7 @@
 ghost use Rattle.std.specs.Prelude.{◌≡◌, ◌↔◌, ◌+◌, ◌<◌, is_some, IfSome, IsTrue, slice_index, EachIndex};
 ghost use Rattle.tally.specs.Places as place;
 ghost use Rattle.tally.specs.Shares.{at, one, is_seizure, adds, level_lost};
-ghost use Rattle.tally.specs.Entry.{full, below_to, has_room, added};
+ghost use Rattle.tally.specs.Entry.{full, has_room, added};
 ghost use Rattle.tally.specs.Room.{HasPlace, HasRoomFor};
 
 use rules::event::Kind;
@@ -43,7 +43,7 @@ pub const MOST_LISTS: u64 = 65536;
 const FULL: u64 = 18446744073709547520;
 
 // Adds n to the total at a place.
-fn add(totals: &mut Totals, place: usize, n: u64)
+fn add(totals: &mut [u64], place: usize, n: u64)
     requires { HasPlace n totals.old place }
     ensures { totals.new ≡ added (at place n) totals.old }
 {
@@ -109,7 +109,7 @@ pub fn count(totals: &mut Totals, kind: u8, taker: Level, number: u8, lost: Opti
 }
 
 // Adds a list, with the holders at its start and at its end.
-pub fn add_list(totals: &mut Totals, start: u64, end: u64)
+pub fn add_list(totals: &mut [u64], start: u64, end: u64)
     requires lists_place { HasPlace 1 totals.old place.lists }
     requires start_place { HasPlace start totals.old place.start }
     requires end_place { HasPlace end totals.old place.end }
