@@ -117,6 +117,10 @@ function change(what) {
         match(what, /0x[0-9a-f]+/)
         return (what ~ /^sub/ ? 1 : -1) * number(substr(what, RSTART, RLENGTH))
     }
+    if (what ~ /^lea +-?0x[0-9a-f]+\(%rsp\),%rsp$/) {
+        match(what, /0x[0-9a-f]+/)
+        return (what ~ /^lea +-/ ? 1 : -1) * number(substr(what, RSTART, RLENGTH))
+    }
     if (what ~ /,%rsp$/) fail("the stack pointer is changed by: " what)
     return 0
 }

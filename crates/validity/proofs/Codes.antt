@@ -2,16 +2,14 @@
 use Prim.Native.Nat.{ℕ, ◌/◌, ◌%◌}
 use mathlib.Core.Path.{◌≡◌, refl, sym, ap, ap₂, ◌∙◌}
 use mathlib.Core.Logic.{◌≢◌}
-use mathlib.Core.Bool.{cond}
 use native.Mathlib.Omega.{arith}
-use lib.Dec.{eqb}
 use Rattle.octets.proofs.Tests.{if_ne}
 use Rattle.rules.specs.declared.verdict.Reason.{Reason}
 use Rattle.rules.specs.declared.verdict.Reason.TheVariants.{FlagOrLevel, DigitOrPointCode, NotZero, NotAbove, Repeated}
-use Rattle.rules.specs.Verdict.{Verdict, fault, no_fault}
+use Rattle.rules.specs.Verdict.{Verdict, fault}
 use Rattle.std.specs.Prelude.{Ok, Err}
 use Rattle.rules.proofs.Numbers.{reason-within}
-use Rattle.validity.specs.Code.{reason_digit, code_of, reason_of}
+use Rattle.validity.specs.Code.{reason_digit, code_of, reason_of, verdict_of}
 
 -- the last digit of a reason's number gives the reason back
 reason_back : (r : Reason) → reason_of (reason_digit r) ≡ r
@@ -31,13 +29,13 @@ module _ (r : Reason) (i : ℕ) where
   unfolding code_of
   parts = let w = reason-within r in ((λ e. omega arith), omega arith, omega arith)
 
-abbrev pub verdict_of : ℕ → Verdict  -- the verdict whose code this is
-verdict_of k = cond (eqb k 0) no_fault (fault (reason_of (k % 8)) (k / 8))
-
 -- a code gives its verdict back
-pub verdict_back : (v : Verdict) → verdict_of (code_of v) ≡ v
+verdict_back : (v : Verdict) → verdict_of (code_of v) ≡ v
 unfolding code_of
 verdict_back (Ok u) = refl
 verdict_back (Err flaw) =
     let p = parts flaw.reason flaw.at in
     sym (if_ne _ _ (its flaw.reason flaw.at) 0 p.0 (ap₂ fault (sym (reason_back flaw.reason) ∙ ap reason_of (sym p.1)) (sym p.2)))
+
+pub decoded-back : {k : ℕ} {v w : Verdict} → k ≡ code_of w → v ≡ verdict_of k → v ≡ w
+decoded-back {w = w} e q = q ∙ ap verdict_of e ∙ verdict_back w

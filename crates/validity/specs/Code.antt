@@ -1,8 +1,8 @@
 -- The code of a verdict is one number for its reason and its record.
-use Rattle.std.specs.Prelude.{ℕ, ◌+◌, ◌-◌, ◌*◌, cond, eqb, Ok, Err}
+use Rattle.std.specs.Prelude.{ℕ, ◌+◌, ◌-◌, ◌*◌, ◌/◌, ◌%◌, cond, eqb, Ok, Err}
 use Rattle.rules.specs.declared.verdict.Reason.{Reason}
 use Rattle.rules.specs.declared.verdict.Reason.TheVariants.{FlagOrLevel, DigitOrPointCode, NotZero, NotAbove, Repeated}
-use Rattle.rules.specs.Verdict.{Verdict}
+use Rattle.rules.specs.Verdict.{Verdict, fault, no_fault}
 use Rattle.rules.specs.Numbers.{reason_number}
 
 abbrev pub reason_digit : Reason → ℕ  -- the last digit of a reason's number
@@ -16,3 +16,6 @@ unfoldable pub reason_of : ℕ → Reason  -- the reason whose number has this l
 reason_of d =
     cond (eqb d 1) FlagOrLevel
     (cond (eqb d 2) DigitOrPointCode (cond (eqb d 3) NotZero (cond (eqb d 4) NotAbove Repeated)))
+
+abbrev pub verdict_of : ℕ → Verdict  -- the verdict whose code this is
+verdict_of k = cond (eqb k 0) no_fault (fault (reason_of (k % 8)) (k / 8))

@@ -12,7 +12,7 @@ ghost use Rattle.rules.specs.Records.{circuits, flags_at, first_octets, records,
 ghost use Rattle.table.specs.Record.{circuit_in};
 ghost use Rattle.validity.specs.Order.{fields_fit, part_in_order, rings_in_order, after_holder, in_order};
 ghost use Rattle.validity.specs.Order as order;
-ghost use Rattle.validity.specs.Code.{reason_digit, code_of, reason_of};
+ghost use Rattle.validity.specs.Code.{reason_digit, code_of, reason_of, verdict_of};
 
 use rules::answer::NO_DETAIL;
 use rules::circuit::Circuit;
@@ -223,8 +223,8 @@ fn digit(reason: Reason) -> u64
 }
 
 // Gives the code of the verdict on a table: 0 for a valid one, else 8 times the record of the first fault and the last digit of its reason's number.
-// Every entry that checks takes the verdict from here, and by its code: the compiler gives a Result back through memory, and a list then takes
-// 456 octets of stack, over its bound of 448 (docs/DECISIONS.md).
+// Every entry that checks takes the verdict from here. A Result was tried: the compiler gives it back through memory, and a list then takes 456
+// octets of stack, over its bound of 448 (docs/DECISIONS.md).
 fn coded(t: &[u8]) -> u64
     ensures { result ≡ code_of (rule.verdict records t.now) }
 {
@@ -248,11 +248,10 @@ fn reason(digit: u64) -> Reason
     }
 }
 
-// Finds the first fault of the table, by its reason and its record.
-pub fn verdict(t: &[u8]) -> Verdict
-    ensures { result ≡ rule.verdict records t.now }
+// Gives the verdict whose code this is.
+fn decoded(code: u64) -> Verdict
+    ensures { result ≡ verdict_of code }
 {
-    let code = coded(t);
     if code == 0 {
         Ok(())
     } else {
@@ -263,7 +262,15 @@ pub fn verdict(t: &[u8]) -> Verdict
     }
 }
 
-// Gives 0 for a valid table, 20 for a wrong length, else the reason and the record of the first fault.
+// Finds the first fault of the table, by its reason and its record.
+pub fn verdict(t: &[u8]) -> Verdict
+    ensures { result ≡ rule.verdict records t.now }
+{
+    decoded(coded(t))
+}
+
+// Gives 0 for a valid table, 20 for a wrong length, else the reason and the record of the first fault. It decodes the verdict itself: were `verdict`
+// called, the compiler would make a function of it, which gives its Result back through memory.
 pub fn check(t: &[u8]) -> Check
     ensures reading { result ≡ checked t.now }
 {
@@ -273,7 +280,7 @@ pub fn check(t: &[u8]) -> Check
             detail: NO_DETAIL,
         };
     }
-    match verdict(t) {
+    match decoded(coded(t)) {
         Ok(()) => Check {
             number: number::DONE,
             detail: NO_DETAIL,
