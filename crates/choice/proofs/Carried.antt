@@ -45,9 +45,6 @@ pub record Passing (x : ℕ → Circuit) (by : Mark) (r : Option ℕ) (top n : �
   pub greatest : top ≡ found r (ranks x by) 0
 
 module _ (x : ℕ → Circuit) (by : Mark) where
-  pub none-passed : Passing x by None 0 0
-  none-passed = record { none_free = λ j l. absurd (omega arith); best = refl; greatest = refl }
-
   module _ {r : Option ℕ} {top i : ℕ} (before : Passing x by r top i) where
     -- what the rank of circuit i makes of the best so far
     above_it : (s : Option ℕ) → found s (ranks x by) 0 < ranks x by i → better (ranks x by) s i ≡ Some i

@@ -1,12 +1,9 @@
 -- The loop returns at the first free circuit, and carries the best of those that it passed.
 use Rattle.std.proofs.Common.{sym, ◌∙◌}
 use Rattle.rules.specs.Records.{circuit_at}
-use Rattle.choice.proofs.Carried.{told, none-passed, pass-better, pass-same, free-chosen, best_chosen}
+use Rattle.choice.proofs.Carried.{told, pass-better, pass-same, free-chosen, best_chosen}
 use Rattle.choice.proofs.choose.Goals as goal
 use Rattle.choice.proofs.choose.Goals.{in-Better, in-NoBetter}
-
-pub loop-number-init : goal.loop-number-init
-loop-number-init c = none-passed (circuit_at c.args.t.now) c.args.by
 
 pub returns-in-Free : goal.returns-in-Free
 returns-in-Free c =
