@@ -171,7 +171,7 @@ pub fn first_repeated(t: &[u8]) -> Option<usize>
 {
     let mut first: Option<usize> = None;
     let mut stems = 0..share(t);
-    // A `for` over numbered passes was tried: it takes 24 octets of stack more, with which a list misses its bound of 448 (docs/DECISIONS.md).
+    // A `for` over numbered passes would be no plainer: each range would be computed from its number again. Tried, it took 24 octets of stack more.
     while stems.start < STEMS {
         if let Some(part) = pass(t, &stems) {
             first = Some(part.min(first.unwrap_or(part)));
