@@ -114,7 +114,8 @@ pub fn detail(a: [u8; ANSWER_SIZE]) -> u16
     u16::from_le_bytes(octets::read(&a, 2))
 }
 
-// A lost party stands in an answer as its flag and its reference.
+// A lost party stands in an answer as its flag and its reference, six octets, of which `is_lost` and `lost_reference` (rules/specs/Records) speak;
+// `lost` gives them as an Option.
 pub type Lost = [u8; 1 + REFERENCE_SIZE];
 
 // Gives the holder that an answer names as lost.
