@@ -58,7 +58,8 @@ fn look(circuit: Record, by: Mark, top: usize) -> Glance
     }
 }
 
-// Finds the circuit that a call with this mark gets: the lowest free one, else the best takeable one.
+// Finds the circuit that a call with this mark gets: the lowest free one, else the best takeable one. The best one's rank is carried beside it, since
+// asked of it anew it would cost each circuit that is looked at.
 pub fn choose(t: &[u8], by: Mark) -> Option<usize>
     ensures { result ≡ choice (circuit_at t.now) (circuits t.now) by }
 {

@@ -1,4 +1,5 @@
 // C and Rust link these entries of the product, each of which only calls the one of the same name in naustvri. The header is include/naustvri.h.
+// They stand again here, since only a crate that is built for C exports what it has.
 
 #![tactic(auto)]
 

@@ -36,7 +36,7 @@ fn turn<'a>(rt: &HostRuntime, table: &mut [u8], room: &'a mut [u8; FULL_LIST]) -
     list
 }
 
-// Applies the lists after the first, each of them full but the last, and says how the last one ended.
+// Applies the lists after the first, each of them full but the last, and says how the last one ended. The bound makes the loop end: no input has so many.
 fn last(rt: &HostRuntime, table: &mut [u8], first: End) -> End {
     let mut room = streams::list_room();
     let mut end = first;

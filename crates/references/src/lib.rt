@@ -78,7 +78,7 @@ fn stands_on(circuit: Record, r: Reference) -> bool
     circuit.stands_in(Side::Holder, r) || circuit.stands_in(Side::Reservation, r)
 }
 
-// Tells whether the call with this reference stands on a circuit below i.
+// Tells whether the call with this reference stands on a circuit below i, which is no `Record`, since it may be the number of circuits.
 #[tactic(auto, using(crate::proofs::Filters::stands_none, crate::proofs::Filters::stands_next))]
 pub fn stands_below(t: &[u8], i: usize, r: Reference) -> bool
     requires { i ≤ circuits t.now }
@@ -121,7 +121,8 @@ fn note(circuit: Record, w: &mut [u64; WORDS], side: Side, stems: &Range<u64>) -
     stands_before(circuit, side, r)
 }
 
-// Goes through all parts and finds the first that is in range and whose reference stands in an earlier part.
+// Goes through all parts and finds the first that is in range and whose reference stands in an earlier part. A part goes by its number, twice its
+// circuit's and its side's, of which `repeated` (rules/specs/Valid) speaks.
 fn pass(t: &[u8], stems: &Range<u64>) -> Option<usize>
     ensures { result ≡ first_to (repeated_in stems.now.start stems.now.end (circuit_at t.now)) (2 * circuits t.now) }
 {

@@ -83,7 +83,8 @@ pub fn list_lengths(t: usize, es: usize, places: usize) -> bool
     table::right_length(t) && es % EVENT_SIZE == 0 && n <= MOST_EVENTS && places == ANSWER_SIZE * n
 }
 
-// Applies the first n events one after another. The table was looked at once, before them, since no event changes the verdict on it.
+// Applies the first n events one after another. The table was looked at once, before them, since no event changes the verdict on it. The
+// buffers are passed one by one, as in `apply`.
 fn each(t: &mut [u8], es: &[u8], places: &mut [u8], n: usize, verdict: Verdict)
     requires t_bound { circuits t.old ≤ most_circuits }
     requires events_in_bounds { event_size * n ≤ length es.now }

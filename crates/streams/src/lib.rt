@@ -35,7 +35,8 @@ const REASON: usize = 256;
 #[derive(Clone, Copy)]
 pub struct Reported;
 
-// Gives room for a full list of events, or for their answers.
+// Gives room for a full list of events, or for their answers. Each such room has a function of its own, whose clause says its size in the words of those
+// who use it.
 pub fn list_room() -> [u8; FULL_LIST]
     ensures { event_size * most_events ≡ length result }
 {

@@ -51,8 +51,9 @@ pub fn count(rt: &HostRuntime) -> usize {
     usize::MAX
 }
 
-// Puts argument i into the buffer and gives its length. One that is too long is cut to the buffer's length: no file of that name is opened
-// where the buffer is longer than a path may be. One that is not there is an empty name, since this may not fail where it did not.
+// Puts argument i into the buffer and gives its length, and no slice, as `streams::table` does. One that is too long is cut to the buffer's
+// length: no file of that name is opened where the buffer is longer than a path may be. One that is not there has no octets, since this could never
+// fail.
 pub fn name(rt: &HostRuntime, i: usize, buffer: &mut [u8]) -> usize
     ensures { IsPrefixLen result buffer.new }
 {

@@ -60,7 +60,8 @@ pub fn holders(t: &[u8]) -> u64
     k
 }
 
-// Applies event k to a table, writes its answer as answer k, and counts it.
+// Applies event k to a table, writes its answer as answer k, and counts it. The buffers are passed one by one, as in `route::apply`; and that the
+// totals have room is a clause, since it is used up from event to event, which no type of theirs could say.
 fn step(t: &mut [u8], es: &[u8], places: &mut [u8], totals: &mut Totals, k: usize, verdict: Verdict)
     requires t_bound { circuits t.old ≤ most_circuits }
     requires event_size_in_bounds { event_size * k + event_size ≤ length es.now }

@@ -108,7 +108,8 @@ pub fn count(totals: &mut Totals, kind: u8, taker: Level, number: u8, lost: Opti
     add(totals, ANSWERED + usize::from(number), 1);
 }
 
-// Adds a list, with the holders at its start and at its end.
+// Adds a list, with the holders at its start and at its end. The totals are a slice of any length, of which the clauses ask three places: an array would
+// ask more.
 pub fn add_list(totals: &mut [u64], start: u64, end: u64)
     requires lists_place { HasPlace 1 totals.old place.lists }
     requires start_place { HasPlace start totals.old place.start }

@@ -9,7 +9,8 @@ pub const ROW: usize = CIRCUIT_SIZE + 2;
 // This octet stands in every place of a buffer before it is written.
 pub const UNWRITTEN: u8 = 0xee;
 
-// This is a row of the script: its letter, or 0 where the line is empty, and its octets, of which the line gives the first `count`. The others
+// This is a row of the script: its letter, or 0 where the line is empty, as a line that begins with 0 is played too, and its octets, of which the line
+// gives the first `count`. The others
 // are zero.
 #[derive(Drop)]
 pub struct Row {
