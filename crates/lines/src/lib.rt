@@ -1,4 +1,5 @@
-// The lines of the programs are written into a buffer that the caller lends, since nothing is allocated. What does not fit is left out, and the length that comes back is the text's.
+// The lines of the programs are written into a buffer that the caller lends, since nothing is allocated. What does not fit is left out, and the
+// length that comes back is the text's.
 
 #![tactic(auto, using(crate::proofs::Extended::parts))]
 
