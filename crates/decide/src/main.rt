@@ -49,7 +49,10 @@ fn lists(rt: &HostRuntime, table: &mut [u8]) -> Result<(), Reported> {
     while before < LAST_NUMBER {
         match turn(rt, before, table)? {
             End::Full => before = listing::numbered_on(before),
-            end => return streams::ended(rt, end),
+            end => {
+                streams::ended(rt, end);
+                break;
+            }
         }
     }
     Ok(())

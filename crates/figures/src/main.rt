@@ -10,21 +10,16 @@ mod lists;
 mod pair;
 mod print;
 
-use streams::Reported;
-
-// Writes the figures of standard input, or of the files that the arguments name.
-fn run(rt: &HostRuntime) -> Result<(), Reported> {
-    let count = streams::named::count(rt);
+fn main(rt: HostRuntime) {
+    let count = streams::named::count(&rt);
     if count < 2 {
-        return input::figures(rt);
+        input::figures(&rt);
+        return;
     }
     if count % 2 == 0 {
         let need = b"each table needs its events: figures TABLE EVENTS ..";
-        return Err(streams::named::say(rt, b"figures", need));
+        let _ = streams::named::say(&rt, b"figures", need);
+        return;
     }
-    day::figures(rt, count / 2)
-}
-
-fn main(rt: HostRuntime) {
-    let _ = run(&rt);
+    day::figures(&rt, count / 2)
 }

@@ -21,6 +21,6 @@ pub fn shorts(rt: &HostRuntime, lefts: &[u8]) -> Result<(), Reported> {
 }
 
 // Writes the last line, where a list was refused.
-pub fn too_many(rt: &HostRuntime) -> Result<(), Reported> {
-    streams::print(rt, &mut [0; LINE], lines::figures::too_many)
+pub fn too_many(rt: &HostRuntime) {
+    let _ = streams::print(rt, &mut [0; LINE], lines::figures::too_many);
 }

@@ -8,7 +8,7 @@ ghost use Rattle.lines.specs.Panel.{most_letters};
 ghost use Rattle.panel.specs.Drawn.{panel};
 
 use lines::panel::MOST_LETTERS;
-use streams::{End, FULL_LIST, Listed, Reported, TABLE_ROOM};
+use streams::{End, Reported, TABLE_ROOM};
 
 // Writes the panel of a table into the text, and gives its length.
 fn drawn(table: &[u8], text: &mut [u8]) -> usize
@@ -26,23 +26,24 @@ fn draw(rt: &HostRuntime, table: &[u8]) -> Result<(), Reported> {
     streams::print(rt, &mut [0; MOST_LETTERS], |text| drawn(table, text))
 }
 
-// Applies one list from standard input to the table, looks at none of its answers, and gives the list.
-fn turn<'a>(rt: &HostRuntime, table: &mut [u8], room: &'a mut [u8; FULL_LIST]) -> Listed<'a> {
+// Applies one list from standard input to the table, and looks at none of its answers. Tells whether the list had an event, and how it ended. Both rooms
+// lie here, since in the callers they would lie on the stack all the time.
+fn turn(rt: &HostRuntime, table: &mut [u8]) -> (bool, End) {
+    let mut room = streams::list_room();
     let mut answers = streams::list_room();
-    let list = streams::next_list(&mut rt.stdin(), room);
+    let list = streams::next_list(&mut rt.stdin(), &mut room);
     let places = &mut answers[..list.events.len()];
     // No length is wrong here: the table was checked, the events are whole, and each has its place.
     let _ = route::list(table, list.events, places);
-    list
+    (!list.events.is_empty(), list.end)
 }
 
 // Applies the lists after the first, each of them full but the last, and says how the last one ended. The bound makes the loop end: no input has so many.
 fn last(rt: &HostRuntime, table: &mut [u8], first: End) -> End {
-    let mut room = streams::list_room();
     let mut end = first;
     for _ in 0..u64::MAX {
         let End::Full = end else { break };
-        end = turn(rt, table, &mut room).end;
+        (_, end) = turn(rt, table);
     }
     end
 }
@@ -50,15 +51,16 @@ fn last(rt: &HostRuntime, table: &mut [u8], first: End) -> End {
 // Draws the panel before the events and, if there are any, after them, with an empty line between.
 fn twice(rt: &HostRuntime, table: &mut [u8]) -> Result<(), Reported> {
     draw(rt, table)?;
-    let mut room = streams::list_room();
-    let first = turn(rt, table, &mut room);
-    if first.events.is_empty() {
-        return streams::ended(rt, first.end);
+    let (any, first) = turn(rt, table);
+    if !any {
+        streams::ended(rt, first);
+        return Ok(());
     }
-    let end = last(rt, table, first.end);
+    let end = last(rt, table, first);
     streams::write(rt, b"\n")?;
     draw(rt, table)?;
-    streams::ended(rt, end)
+    streams::ended(rt, end);
+    Ok(())
 }
 
 // Draws the panel of the table, unless there is none.

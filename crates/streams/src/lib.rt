@@ -229,10 +229,15 @@ pub fn short(rt: &HostRuntime, n: u8) -> Result<(), Reported> {
 }
 
 // Says what comes after the last whole event: a line where octets were left over, or on standard error why a read failed.
-pub fn ended(rt: &HostRuntime, end: End) -> Result<(), Reported> {
+// Nothing follows it, so that it gives nothing: where its own line cannot be written, standard error says so.
+pub fn ended(rt: &HostRuntime, end: End) {
     match end {
-        End::Full => Ok(()),
-        End::Left(n) => short(rt, n),
-        End::Failed(why) => Err(fail(rt, b"standard input", why)),
+        End::Full => {}
+        End::Left(n) => {
+            let _ = short(rt, n);
+        }
+        End::Failed(why) => {
+            let _ = fail(rt, b"standard input", why);
+        }
     }
 }
