@@ -6,11 +6,9 @@ use native.Mathlib.Omega.{arith}
 use lib.Dec.{ltb, leb}
 use lib.ListN.{length, take, drop, get_or, set, length-append}
 use lib.Seq.{take-nil, paste, paste-zero, paste-suc, take-append-add}
-use borrow.Rule.Slice.PartMut.{put_mid}
 use borrow.Author.Tests.{ltb-true, ltb-false, leb-true, leb-false}
 use Rattle.std.specs.Prelude.{min}
 use Rattle.std.proofs.lemmas.List.{set_past, take-take, take_all, take-append-le, length-take}
-use Rattle.std.proofs.lemmas.Slice.{put_mid-paste}
 use Rattle.octets.specs.Span.{put_to, put}
 use Rattle.octets.proofs.Tests.{by_so}
 use Rattle.octets.proofs.Spans.{length-put_to, put-put}
@@ -37,11 +35,15 @@ cut t o v (suc k) h =
     set_past (put_to t o v k) (o + k) (get_or v k 0) (omega (arith, length-put_to t o v k)) ∙ before
     ∙ ap (paste t (min o (length t)) v) same)
 
-pub copied : (t : List ℕ) (o : ℕ) (v ys : List ℕ) (a n : ℕ) → length t ≤ most → a ≡ min o (length t) → n ≡ min (length v) (length t - a) → ys ≡ take n v → put_mid a (a + n - a) t ys ≡ put t o (take (most - o) v)
-copied t o v ys a n h e f g =
+-- what has room of v is what is written of it
+pub fitted : (t : List ℕ) (o : ℕ) (v : List ℕ) (a n : ℕ) → length t ≤ most → a ≡ min o (length t) → n ≡ min (length v) (length t - a) → put t a (take n v) ≡ put t o (take (most - o) v)
+fitted t o v a n h e f =
     let all = take (most - o) v in
+    let part = take n v in
+    let near : min a (length t) ≡ a = omega arith in
+    let fits : min (length part) (length t - a) ≡ n = omega (arith, length-take n v) in
     let whole : min (length all) (length t - o) ≡ n = omega (arith, length-take (most - o) v) in
-    put_mid-paste a (a + n - a) t ys (take n v) n g (omega arith) (omega (arith, length-take n v))
+    cut t a part (length part) (omega arith) ∙ ap₂ (λ (p q : ℕ). paste t p part q) near fits
     ∙ ap (λ (l : List ℕ). take a t ++ l ++ drop (a + n) t) (take-take n n v (omega arith) ∙ sym (take-take n (most - o) v (omega arith)))
     ∙ ap₂ (λ (p q : ℕ). paste t p all q) e (sym whole) ∙ sym (cut t o all (length all) (omega arith))
 

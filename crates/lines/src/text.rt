@@ -28,14 +28,14 @@ impl<'a> Text<'a> {
         self.at
     }
 
-    // Writes letters, as far as the buffer has room.
+    // Writes letters, as far as the buffer has room. They are written in a loop: the line of an event has a dozen parts, most of them of one letter, and the
+    // library's `copy_from_slice` calls the C library for each.
     pub fn put(&mut self, letters: &[u8])
         ensures { self.new ≡ extended self.old letters.now }
     {
-        let out = &mut *self.out;
-        let from = self.at.min(out.len());
-        let n = letters.len().min(out.len() - from);
-        out[from..from + n].copy_from_slice(&letters[..n]);
+        let from = self.at.min(self.out.len());
+        let n = letters.len().min(self.out.len() - from);
+        octets::write(self.out, from, &letters[..n]);
         self.at = self.at.saturating_add(letters.len());
     }
 
