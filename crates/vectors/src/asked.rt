@@ -29,7 +29,7 @@ fn lamp_map(page: Page, t: &[u8]) {
         number: m.number,
         detail: m.detail,
     });
-    page.number(m.lit);
+    page.number(u64::from(m.lit));
     for word in words.iter().rev() {
         page.lamps(*word);
     }

@@ -10,22 +10,22 @@ use fields::{precedence, reference, refusal};
 pub fn values(page: Page, value: Precedence) {
     page.barred(&[value.lfb, value.level]);
     page.octets(&value.digits);
-    page.number(value.service);
+    page.number(u64::from(value.service));
 }
 
 // Reads a parameter of the row's octets: number; its values.
 pub fn read_precedence(page: Page, row: &Row) {
     let r = precedence::Reading::from(precedence::read(row.given()));
-    page.number(r.number);
+    page.number(u64::from(r.number));
     values(page, r.value);
 }
 
 // Reads a reference of the row's octets: number, identity, point code.
 pub fn read_reference(page: Page, row: &Row) {
     let r = reference::Reading::from(reference::read(row.given()));
-    page.number(r.number);
-    page.number(r.value.identity);
-    page.number(r.value.point);
+    page.number(u64::from(r.number));
+    page.number(u64::from(r.value.identity));
+    page.number(u64::from(r.value.point));
 }
 
 // Writes LFB, level, four digits and service domain of a row, which stand after the size of the buffer.
@@ -56,6 +56,6 @@ pub fn written<F: FnOnce(&Row, &mut [u8]) -> Result<(), Refused>>(page: Page, ro
     let size = usize::from(row.first());
     let mut buffer = [UNWRITTEN; ROW];
     let written = write(row, &mut buffer[..size.min(ROW)]);
-    page.number(refusal::number(written));
+    page.number(u64::from(refusal::number(written)));
     page.buffer(&buffer, size);
 }

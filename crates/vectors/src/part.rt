@@ -12,29 +12,29 @@ const LONG: usize = 600;
 // Finds precedence in a part: number, whether it was found, where it starts, where the part ends; its values.
 pub fn found(page: Page, part: &[u8]) {
     let r = Found::from(search::find(part));
-    page.number(r.number);
-    page.number(r.found);
-    page.number(r.start);
-    page.number(r.end);
+    page.number(u64::from(r.number));
+    page.number(u64::from(r.found));
+    page.number(r.start as u64);
+    page.number(r.end as u64);
     field::values(page, r.value);
 }
 
 // Takes one step from the place that the row's first octet says, in the part of its others: number, name, length; start and next.
 pub fn step(page: Page, row: &Row) {
     let p = part::parameter_at(row.rest(), usize::from(row.first()));
-    page.number(p.number);
-    page.number(p.name);
-    page.number(p.length);
-    page.put(b" |");
-    page.number(p.start);
-    page.number(p.next);
+    page.number(u64::from(p.number));
+    page.number(u64::from(p.name));
+    page.number(u64::from(p.length));
+    page.bar();
+    page.number(p.start as u64);
+    page.number(p.next as u64);
 }
 
 // Writes a list into a buffer, and gives its number and end.
 fn put(page: Page, buffer: &mut [u8], list: &[u8]) {
     let r = Written::from(write::write(buffer, list));
-    page.number(r.number);
-    page.number(r.end);
+    page.number(u64::from(r.number));
+    page.number(r.end as u64);
 }
 
 // Writes the list of the row's other octets into a buffer of as many octets as its first one says.
@@ -54,6 +54,6 @@ pub fn long(page: Page, row: &Row) {
     list[..3].copy_from_slice(&row.part::<3>(0));
     let part = &mut buffer[..size.min(LONG)];
     put(page, part, &list[..(count + 3).min(LONG)]);
-    page.put(b" |");
+    page.bar();
     found(page, part);
 }

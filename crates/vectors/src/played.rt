@@ -18,7 +18,7 @@ const STARTS: usize = EVENT_SIZE * (PLAYED - 1) + 1;
 
 // These are the events played one by one, and their answers, which have as many octets: the first `length` of their rooms. The rooms stay whole, since
 // a list may be told to go on behind the events played.
-#[derive(Drop)]
+#[derive(Clone, Copy)]
 pub struct Played {
     events: [u8; ROOM],
     answers: [u8; ROOM],

@@ -14,15 +14,16 @@ use table::CIRCUIT_SIZE;
 const IDENTITY: usize = 7;
 
 // This is a scene as far as it has come. An answer to one of its events has `answer_size` octets.
-#[derive(Drop)]
-struct Scene {
+#[derive(Clone, Copy)]
+pub struct Scene {
     circuits: [u8; ROOM],
     table: Table,
     played: Played,
     answer_size: usize,
 }
 
-// Writes the program's line for the answer to an event.
+// Writes the program's line for the answer to an event. The text is measured here, since no other text of the script is, and `streams::print` would say on
+// standard error what a page leaves out.
 fn line(page: Page, event: u64, answer: [u8; ANSWER_SIZE]) {
     let mut text = [0; MOST_LETTERS];
     let length = lines::event::line(&mut text, event, answer);
@@ -32,7 +33,7 @@ fn line(page: Page, event: u64, answer: [u8; ANSWER_SIZE]) {
 
 // Writes what a comparison says, and of what.
 fn compared(page: Page, same: bool, what: &[u8]) {
-    page.put(if same { b", the same " } else { b", OTHER " });
+    page.put(if same { b", the same" } else { b", OTHER" });
     page.put(what);
 }
 
@@ -83,7 +84,7 @@ impl Scene {
         let number = route::event(self.table.octets_mut(), row.given(), &mut buffer[..size]);
         let answer = events::answer_at(&buffer, 0);
         page.put(b"=");
-        page.number(number.unwrap_or_else(u8::from));
+        page.number(u64::from(number.unwrap_or_else(u8::from)));
         page.buffer(&buffer, self.answer_size);
         match number {
             Ok(_) => line(page, self.played.next_number(), answer),
@@ -95,8 +96,8 @@ impl Scene {
     // Compares what a list left with what the events one by one left, octets behind a table with them.
     fn list_compared(&self, page: Page, places: &[u8; LIST], table: &Table) {
         let answers = self.played.answers();
-        compared(page, places.starts_with(answers), b"answers");
-        compared(page, *table == self.table, b"table\n");
+        compared(page, places.starts_with(answers), b" answers");
+        compared(page, *table == self.table, b" table\n");
         circuits(page, self.table.octets());
     }
 
@@ -109,7 +110,7 @@ impl Scene {
         let wanted = self.played.and_more(row.part(3));
         let done = route::list(table.octets_mut(), &events[..given], &mut places[..wanted]);
         page.put(b"=");
-        page.number(done.map_or_else(u8::from, |()| DONE));
+        page.number(u64::from(done.map_or_else(u8::from, |()| DONE)));
         if places.iter().all(|octet| *octet == UNWRITTEN) {
             page.put(b", nothing written");
         }
