@@ -73,6 +73,10 @@ abbrev pub found_in : Option PrecedenceAt → ℕ → Found
 found_in (Some p) e = record { number = done; found = 1; start = p.start; end = e; value = p.value }
 found_in None e = record { number = done; found = 0; start = 0; end = e; value = no_value }
 
+-- what was found in a part whose end stands at a place
+abbrev pub ended_at : Option PrecedenceAt → ℕ → Searched
+ended_at stood at = record { precedence = stood; end = at + 1 }
+
 abbrev pub found : Result Searched Fault → Found
 found (Ok searched) = found_in searched.precedence searched.end
 found (Err fault) = nothing (fault_number fault)

@@ -1,6 +1,6 @@
 // Precedence is searched for in an optional part: the search goes to the end of the part or to its first fault.
-ghost use Rattle.std.specs.Prelude.{◌≡◌};
-ghost use Rattle.optional.specs.Search.{Lies, had, after, noted, standing_at, found, find};
+ghost use Rattle.std.specs.Prelude.{◌≡◌, ◌+◌, ◌^◌, ◌<◌};
+ghost use Rattle.optional.specs.Search.{Lies, had, after, noted, standing_at, ended_at, found, find};
 
 use crate::part;
 use crate::part::{Fault, Standing};
@@ -87,6 +87,17 @@ fn noted(
     }))
 }
 
+// Gives what was found in a part whose end octet stands at a place.
+fn ended(precedence: Option<PrecedenceAt>, place: usize) -> Searched
+    requires { place + 1 < 2 ^ 64 }
+    ensures { result ≡ ended_at precedence place }
+{
+    Searched {
+        precedence,
+        end: place + 1,
+    }
+}
+
 // Finds precedence in a part, which a reader goes through to its end or to its first fault.
 pub fn find(part: &[u8]) -> Result<Searched, Fault>
     ensures reading { found result ≡ find part.now }
@@ -96,8 +107,5 @@ pub fn find(part: &[u8]) -> Result<Searched, Fault>
     while let Some(parameter) = reader.step()? {
         precedence = noted(part, precedence, parameter)?;
     }
-    Ok(Searched {
-        precedence,
-        end: reader.place + 1,
-    })
+    Ok(ended(precedence, reader.place))
 }

@@ -3,7 +3,7 @@
 
 #![tactic(auto)]
 
-ghost use Rattle.std.specs.Prelude.{◌≡◌, true, ◌&&◌, ◌||◌, ◌+◌, ◌*◌, ◌<◌, ◌≤◌};
+ghost use Rattle.std.specs.Prelude.{◌≡◌, true, ◌&&◌, ◌||◌, ◌+◌, ◌*◌, ◌<◌, ◌≤◌, min, unwrap_or};
 ghost use Rattle.rules.specs.Circuit.{is_of};
 ghost use Rattle.rules.specs.Search.{first_to};
 ghost use Rattle.rules.specs.Valid.{side_number, repeated};
@@ -165,6 +165,13 @@ fn share(t: &[u8]) -> u64
     }
 }
 
+// Gives the lower of a part and the first one so far, if there is one.
+fn least(part: usize, first: Option<usize>) -> usize
+    ensures { result ≡ min part (unwrap_or first part) }
+{
+    part.min(first.unwrap_or(part))
+}
+
 // Finds the first part whose reference stands in an earlier part. Equal references have one stem, so each pass finds those of its own range, and the
 // lowest of any pass is the first. What is kept from pass to pass costs stack, so the ranges carry their own width.
 pub fn first_repeated(t: &[u8]) -> Option<usize>
@@ -175,7 +182,7 @@ pub fn first_repeated(t: &[u8]) -> Option<usize>
     // A `for` over numbered passes would be no plainer: each range would be computed from its number again. Tried, it took 24 octets of stack more.
     while stems.start < STEMS {
         if let Some(part) = pass(t, &stems) {
-            first = Some(part.min(first.unwrap_or(part)));
+            first = Some(least(part, first));
         }
         stems = stems.end..stems.end + (stems.end - stems.start);
     }

@@ -16,7 +16,7 @@ loop-stems-preserved c =
     let sifted : Sifted x m to c.match-pass.first = elim c.match-pass.branch [
       | in-Some w ↦
           subst (Sifted x m to) (sym w.first-is)
-          (sift_part x m from to c.pass.ensures w.in-Some.is at.first at.invariant.2 (w.min.ensures ∙ ap (min w.in-Some.part) w.unwrap_or.ensures))
+          (sift_part x m from to c.pass.ensures w.in-Some.is at.first at.invariant.2 w.least.ensures)
       | in_default w ↦
           let none : c.pass.result ≡ None = search rules in
           subst (Sifted x m to) (sym w.first-is) (sift_nothing x m from to c.pass.ensures none at.invariant.2)

@@ -4,7 +4,8 @@ use Rattle.optional.specs.declared.reader.Reader.{Reader}
 use Rattle.optional.specs.declared.part.Parameter.{Parameter}
 use Rattle.optional.specs.declared.part.Standing.{Standing}
 use Rattle.optional.specs.Part.{given, parameter_at}
-use Rattle.optional.specs.Search.{begun, had, found_in}
+use Rattle.optional.specs.declared.search.Searched.{Searched}
+use Rattle.optional.specs.Search.{begun, had, found, found_in}
 use Rattle.optional.proofs.Walk.{Stands, begins}
 use Rattle.optional.proofs.Searching.{gave, behind_it, lies, smaller, faulty, over, unfit, further}
 use Rattle.optional.proofs.search.find.Goals as goal
@@ -64,5 +65,5 @@ returns c =
     let said = ap (λ (o : Option Standing). given at (Ok o)) (sym c.in_default.is) ∙ c.in_ok-parameter.ensures.step in
     let there : c.step.new.self.place ≡ at = ap (λ (r : Reader). r.place) c.step.ensures.place ∙ sym (ap (λ (q : Parameter). q.next) said) in
     record {
-      reading = ap (λ (n : ℕ). found_in stood (n + 1)) there ∙ over c.args.part.now i.1.0 at stood i.1.1 (said ∙ ap (λ (l : List ℕ). parameter_at l at) i.0);
+      reading = ap (λ (r : Searched). found (Ok r)) c.ended.ensures ∙ ap (λ (n : ℕ). found_in stood (n + 1)) there ∙ over c.args.part.now i.1.0 at stood i.1.1 (said ∙ ap (λ (l : List ℕ). parameter_at l at) i.0);
     }
