@@ -4,7 +4,7 @@
 
 ghost use Rattle.std.specs.Prelude.{◌≡◌, false, ◌≤◌, ◌<◌};
 ghost use Rattle.rules.specs.Decision.{on_reservation, blocked, set_up, stands_nowhere, look_ahead, on_holder, cancel};
-ghost use Rattle.rules.specs.Choice.{reserved_by};
+ghost use Rattle.rules.specs.Choice.{held_by};
 ghost use Rattle.rules.specs.Decision as rule;
 ghost use Rattle.rules.specs.Valid as table;
 ghost use Rattle.rules.specs.Run.{outcome_of};
@@ -48,27 +48,28 @@ fn stands_nowhere(t: &[u8], reference: Reference) -> bool
     !references::stands_below(t, table::count(t), reference)
 }
 
-// Decides a set-up by a call that has reserved a circuit.
-#[tactic(auto, unfolding(rules::specs::Decision::set_up))]
-fn set_up_reserver(circuit: Record, e: Event) -> Outcome
-    requires { reserved_by (circuit_at circuit.table.now) (circuits circuit.table.now) e.reference ≡ Some circuit.number }
-    ensures { result ≡ set_up (circuit_at circuit.entry.table.now) (circuits circuit.entry.table.now) e }
+// Decides a set-up by a call that stands somewhere and holds nothing: it has reserved a circuit.
+#[tactic(auto, using(crate::proofs::Named::reserved_below, crate::proofs::Nowhere::holder_refused), unfolding(rules::specs::Decision::set_up))]
+fn set_up_reserver(t: &[u8], e: Event) -> Outcome
+    requires known { stands_nowhere (circuit_at t.now) (circuits t.now) e.reference ≡ false }
+    requires unheld { held_by (circuit_at t.now) (circuits t.now) e.reference ≡ None }
+    ensures { result ≡ set_up (circuit_at t.now) (circuits t.now) e }
 {
-    match choice::held_by(circuit.table, e.reference) {
-        Some(_) => Err(Refusal::AlreadyThere),
-        None => on_reservation(e, circuit.part(Side::Reservation), circuit.number),
-    }
+    let number = choice::reserved_by(t, e.reference).ok_or(Refusal::AlreadyThere)?;
+    let circuit = Record { table: t, number };
+    on_reservation(e, circuit.part(Side::Reservation), number)
 }
 
-// Decides a set-up by a call that stands somewhere: if it has reserved nothing, it holds.
-#[tactic(auto, using(crate::proofs::Named::reserved_below, crate::proofs::Nowhere::holder_refused))]
+// Decides a set-up by a call that stands somewhere. The walk for a holder goes first, since it ends where the call holds; one for the reservation that a
+// holder has not would go to the last circuit.
+#[tactic(auto, unfolding(rules::specs::Decision::set_up))]
 fn set_up_known(t: &[u8], e: Event) -> Outcome
     requires { stands_nowhere (circuit_at t.now) (circuits t.now) e.reference ≡ false }
     ensures { result ≡ set_up (circuit_at t.now) (circuits t.now) e }
 {
-    match choice::reserved_by(t, e.reference) {
-        Some(number) => set_up_reserver(Record { table: t, number }, e),
-        None => Err(Refusal::AlreadyThere),
+    match choice::held_by(t, e.reference) {
+        Some(_) => Err(Refusal::AlreadyThere),
+        None => set_up_reserver(t, e),
     }
 }
 
