@@ -48,7 +48,7 @@ fn stands_nowhere(t: &[u8], reference: Reference) -> bool
     !references::stands_below(t, table::count(t), reference)
 }
 
-// Decides a set-up by a call that stands somewhere and holds nothing: it has reserved a circuit.
+// Decides a set-up by a call that stands somewhere and holds nothing: it has reserved a circuit, so that the refusal is not met.
 #[tactic(auto, using(crate::proofs::Named::reserved_below, crate::proofs::Nowhere::holder_refused), unfolding(rules::specs::Decision::set_up))]
 fn set_up_reserver(t: &[u8], e: Event) -> Outcome
     requires known { stands_nowhere (circuit_at t.now) (circuits t.now) e.reference ≡ false }
